@@ -2,14 +2,13 @@
 use Rattle.std.proofs.Common.{◌≡◌, ℕ, List, [], ◌∷◌, length, refl, sym, subst, arith, inl, inr}
 use Rattle.std.specs.Prelude.{◌==◌}
 use Rattle.std.proofs.lemmas.Bool.{cases_Bool}
-use Rattle.trace_base.specs.declared.layout.Layout.{Layout}
 use Rattle.subpage.specs.ItemData.{ItemData}
 use Rattle.subpage.specs.Arrangement.{Keyed}
 use Rattle.line_holes.specs.Holes.{LineText}
 use Rattle.page_pool.specs.declared.lane.Lane.{Lane}
 use Rattle.page_pool.specs.Keeping.{forming}
 use Rattle.page_pool.proofs.Keeping.{lane_still}
-use Rattle.event_cursor.specs.Standing.{IsInOrder, keyed_held}
+use Rattle.event_cursor.specs.Standing.{keyed_held}
 use Rattle.cpu_workers.specs.Spaces.{Space, has_no_room, with_line, fill, space_of}
 use Rattle.cpu_workers.specs.Formats.{IsFormatted, IsSettled}
 use Rattle.cpu_workers.proofs.Using.{used_none}
@@ -30,21 +29,20 @@ module _ (text : ℕ → ItemData → LineText) where
         ]
       ]
 
-  pub settled_behind : (l : Layout) (before now : Lane) → IsFormatted text l before now → IsSettled text l now
-  settled_behind l before now formatted =
+  pub settled_behind : (before now : Lane) → IsFormatted text before now → IsSettled text now
+  settled_behind before now formatted =
       let P : Space × List Keyed → Type 0 = λ r. fill text r.0 r.1 ≡ r in
-      subst P formatted.filled (fill_again (space_of before.region) (keyed_held l before))
+      subst P formatted.filled (fill_again (space_of before.region) (keyed_held before))
 
   -- a settled lane is formatted as it stands
-  pub settled_formatted : (l : Layout) (a : Lane) → IsInOrder l a → IsSettled text l a → IsFormatted text l a a
-  settled_formatted l a in_order settled = record {
-    in_order = in_order;
+  pub settled_formatted : (a : Lane) → IsSettled text a → IsFormatted text a a
+  settled_formatted a settled = record {
     filled = settled;
     keeps = lane_still forming a;
     unheld = λ _. refl;
     most = omega arith;
     used = refl;
-    behind = used_none l a a refl refl;
+    behind = used_none a a refl refl;
     high = refl;
     sorted = λ s. s;
     stands = λ file s. s;

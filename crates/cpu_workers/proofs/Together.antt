@@ -4,28 +4,26 @@ use Rattle.std.specs.List.{All}
 use Rattle.std.proofs.lemmas.Bool.{cases_lt}
 use Rattle.std.proofs.lemmas.List.{get_or_append_left, get_or-append_right, get_or_default, get_or-set_same, get_or-set_other, length-append, take-append-drop}
 use Rattle.std.proofs.lemmas.List.Elements.{All-get_or}
-use Rattle.trace_base.specs.declared.layout.Layout.{Layout}
 use Rattle.subpage.specs.ItemData.{ItemData}
 use Rattle.line_holes.specs.Holes.{LineText}
 use Rattle.page_pool.specs.declared.lane.Lane.{Lane}
 use Rattle.page_pool.specs.Moved.{KeepsUnmoved, NoneMarked}
 use Rattle.page_pool.proofs.Passing.{passing}
-use Rattle.event_cursor.specs.Standing.{IsInOrder}
 use Rattle.cpu_workers.specs.Formats.{AreFormatted, AreMarked, IsFormatted, IsSettled}
 use Rattle.cpu_workers.proofs.Settling.{settled_formatted}
 
-module _ (text : ℕ → ItemData → LineText) (l : Layout) where
-  same : (a b x y : Lane) → a ≡ x → b ≡ y → IsFormatted text l x y → IsFormatted text l a b
+module _ (text : ℕ → ItemData → LineText) where
+  same : (a b x y : Lane) → a ≡ x → b ≡ y → IsFormatted text x y → IsFormatted text a b
   same a b x y is_x is_y formatted =
-      subst (λ (z : Lane). IsFormatted text l a z) (sym is_y) (subst (λ (z : Lane). IsFormatted text l z y) (sym is_x) formatted)
+      subst (λ (z : Lane). IsFormatted text a z) (sym is_y) (subst (λ (z : Lane). IsFormatted text z y) (sym is_x) formatted)
 
   pub one_more : (first now : List Lane) (i : ℕ) (old new : Lane) → i < length now
-      → ((k : ℕ) (d : Lane) → k < i → IsFormatted text l (get_or first k d) (get_or now k d))
+      → ((k : ℕ) (d : Lane) → k < i → IsFormatted text (get_or first k d) (get_or now k d))
       → ((k : ℕ) (d : Lane) → i ≤ k → get_or now k d ≡ get_or first k d)
-      → IsFormatted text l (get_or now i old) new
-      → (k : ℕ) (d : Lane) → k < i + 1 → IsFormatted text l (get_or first k d) (get_or (set now i new) k d)
+      → IsFormatted text (get_or now i old) new
+      → (k : ℕ) (d : Lane) → k < i + 1 → IsFormatted text (get_or first k d) (get_or (set now i new) k d)
   one_more first now i old new inside done rest this k d before =
-      elim (cases_lt k i) as (λ _. IsFormatted text l (get_or first k d) (get_or (set now i new) k d)) [
+      elim (cases_lt k i) as (λ _. IsFormatted text (get_or first k d) (get_or (set now i new) k d)) [
         | inl lt ↦ same (get_or first k d) (get_or (set now i new) k d) (get_or first k d) (get_or now k d) refl
             (get_or-set_other now i k new d (λ e. omega (arith, e, lt))) (done k d lt)
         | inr le ↦ let here : k ≡ i = omega (arith, before, le) in
@@ -36,42 +34,42 @@ module _ (text : ℕ → ItemData → LineText) (l : Layout) where
 
   -- a lane that is passed over is formatted as it stands
   one_passed : (first now : List Lane) (i : ℕ) → i < length first
-      → ((k : ℕ) (d : Lane) → k < i → IsFormatted text l (get_or first k d) (get_or now k d))
+      → ((k : ℕ) (d : Lane) → k < i → IsFormatted text (get_or first k d) (get_or now k d))
       → ((k : ℕ) (d : Lane) → i ≤ k → get_or now k d ≡ get_or first k d)
-      → All (IsInOrder l) first → ((d : Lane) → IsSettled text l (get_or first i d))
-      → (k : ℕ) (d : Lane) → k < i + 1 → IsFormatted text l (get_or first k d) (get_or now k d)
-  one_passed first now i inside done rest in_order settled k d before =
-      elim (cases_lt k i) as (λ _. IsFormatted text l (get_or first k d) (get_or now k d)) [
+      → ((d : Lane) → IsSettled text (get_or first i d))
+      → (k : ℕ) (d : Lane) → k < i + 1 → IsFormatted text (get_or first k d) (get_or now k d)
+  one_passed first now i inside done rest settled k d before =
+      elim (cases_lt k i) as (λ _. IsFormatted text (get_or first k d) (get_or now k d)) [
         | inl lt ↦ done k d lt
         | inr le ↦ let here : k ≡ i = omega (arith, before, le) in
             let at : (lanes : List Lane) → get_or lanes k d ≡ get_or lanes i d = λ lanes. ap (λ (n : ℕ). get_or lanes n d) here in
             same (get_or first k d) (get_or now k d) (get_or first i d) (get_or first i d) (at first) (at now ∙ rest i d (omega arith))
-            (settled_formatted text l (get_or first i d) (All-get_or (IsInOrder l) first i d inside in_order) (settled d))
+            (settled_formatted text (get_or first i d) (settled d))
       ]
 
   -- lanes that are passed over are formatted as they stand
-  pub all_passed : (first now : List Lane) (moved : List Bool) (from to : ℕ) → AreMarked text l moved first → from ≤ to → to ≤ length moved
+  pub all_passed : (first now : List Lane) (moved : List Bool) (from to : ℕ) → AreMarked text moved first → from ≤ to → to ≤ length moved
       → NoneMarked moved from to
-      → ((k : ℕ) (d : Lane) → k < from → IsFormatted text l (get_or first k d) (get_or now k d))
+      → ((k : ℕ) (d : Lane) → k < from → IsFormatted text (get_or first k d) (get_or now k d))
       → ((k : ℕ) (d : Lane) → from ≤ k → get_or now k d ≡ get_or first k d)
-      → (k : ℕ) (d : Lane) → k < to → IsFormatted text l (get_or first k d) (get_or now k d)
+      → (k : ℕ) (d : Lane) → k < to → IsFormatted text (get_or first k d) (get_or now k d)
   all_passed first now moved from to marked behind within none done rest =
-      passing (λ j. (k : ℕ) (d : Lane) → k < j → IsFormatted text l (get_or first k d) (get_or now k d)) moved from to behind none
+      passing (λ j. (k : ℕ) (d : Lane) → k < j → IsFormatted text (get_or first k d) (get_or now k d)) moved from to behind none
       (λ j more inside unmarked before.
       let there : j < length first = omega (arith, inside, within, marked.marks) in
-      one_passed first now j there before (λ k d later. rest k d (omega (arith, more, later))) marked.in_order (λ d. marked.unmoved j d there unmarked))
+      one_passed first now j there before (λ k d later. rest k d (omega (arith, more, later))) (λ d. marked.unmoved j d there unmarked))
       done
 
   pub both : (all a b now_a now_b : List Lane) (moved moved_a moved_b : List Bool) → all ≡ a ++ b → moved ≡ moved_a ++ moved_b
-      → length moved_a ≡ length a → AreFormatted text l moved_a a now_a → AreFormatted text l moved_b b now_b
-      → AreFormatted text l moved all (now_a ++ now_b)
+      → length moved_a ≡ length a → AreFormatted text moved_a a now_a → AreFormatted text moved_b b now_b
+      → AreFormatted text moved all (now_a ++ now_b)
   both all a b now_a now_b moved moved_a moved_b is is_moved marks front back =
       let long : length all ≡ length a + length b = ap length is ∙ length-append a b in
       let at : (i : ℕ) (d : Lane) → get_or all i d ≡ get_or (a ++ b) i d = λ i d. ap (λ (lanes : List Lane). get_or lanes i d) is in
       let mark : (i : ℕ) → get_or moved i true ≡ get_or (moved_a ++ moved_b) i true = λ i. ap (λ (marks : List Bool). get_or marks i true) is_moved in
       record {
         count = omega (arith, long, length-append now_a now_b, front.count, back.count);
-        each = λ i d inside. elim (cases_lt i (length a)) as (λ _. IsFormatted text l (get_or all i d) (get_or (now_a ++ now_b) i d)) [
+        each = λ i d inside. elim (cases_lt i (length a)) as (λ _. IsFormatted text (get_or all i d) (get_or (now_a ++ now_b) i d)) [
           | inl lt ↦ same (get_or all i d) (get_or (now_a ++ now_b) i d) (get_or a i d) (get_or now_a i d)
               (at i d ∙ get_or_append_left a b d i lt) (get_or_append_left now_a now_b d i (omega (arith, lt, front.count))) (front.each i d lt)
           | inr le ↦ same (get_or all i d) (get_or (now_a ++ now_b) i d) (get_or b (i - length a) d) (get_or now_b (i - length a) d)

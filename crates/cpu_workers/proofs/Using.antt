@@ -1,6 +1,5 @@
 -- Items that are used up, a few after others.
 use Rattle.std.proofs.Common.{◌≡◌, ℕ, List, [], ◌∷◌, ◌++◌, Option, Some, refl, sym, ap, ◌∙◌, append_assoc}
-use Rattle.trace_base.specs.declared.layout.Layout.{Layout}
 use Rattle.subpage.specs.ItemData.{ItemData}
 use Rattle.page_pool.specs.declared.lane.Lane.{Lane}
 use Rattle.event_cursor.specs.Keys.{key_behind}
@@ -13,20 +12,20 @@ high_both high [] ys = refl
 high_both high (x ∷ xs) ys = high_both (Some (key_behind high x)) xs ys
 
 -- a lane that stands as it stood
-pub used_none : (l : Layout) (before now : Lane) → held_left l now ≡ held_left l before → now.cursor.high ≡ before.cursor.high → HasUsed l before now
-used_none l before now left high = record { items = []; left = sym left; high = high }
+pub used_none : (before now : Lane) → held_left now ≡ held_left before → now.cursor.high ≡ before.cursor.high → HasUsed before now
+used_none before now left high = record { items = []; left = sym left; high = high }
 
 -- one item
-pub used_one : (l : Layout) (before mid now : Lane) → held_left l mid ≡ held_left l before → mid.cursor.high ≡ before.cursor.high → IsStepped l mid now → HasUsed l before now
-used_one l before mid now left high step = record {
+pub used_one : (before mid now : Lane) → held_left mid ≡ held_left before → mid.cursor.high ≡ before.cursor.high → IsStepped mid now → HasUsed before now
+used_one before mid now left high step = record {
   items = step.first ∷ [];
   left = sym left ∙ step.left;
   high = step.high ∙ ap (λ (h : Option ℕ). Some (key_behind h step.first)) high;
 }
 
-pub used_both : (l : Layout) (before mid now : Lane) → HasUsed l before mid → HasUsed l mid now → HasUsed l before now
-used_both l before mid now one two = record {
+pub used_both : (before mid now : Lane) → HasUsed before mid → HasUsed mid now → HasUsed before now
+used_both before mid now one two = record {
   items = one.items ++ two.items;
-  left = one.left ∙ ap (λ (rest : List ItemData). one.items ++ rest) two.left ∙ sym (append_assoc one.items two.items (held_left l now));
+  left = one.left ∙ ap (λ (rest : List ItemData). one.items ++ rest) two.left ∙ sym (append_assoc one.items two.items (held_left now));
   high = two.high ∙ ap (λ (h : Option ℕ). high_after h two.items) one.high ∙ sym (high_both before.cursor.high one.items two.items);
 }

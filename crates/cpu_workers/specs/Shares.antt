@@ -1,23 +1,22 @@
 -- Lanes that are shared out to workers.
 use Rattle.std.specs.Prelude.{ℕ, ◌+◌, ◌*◌, ◌/◌, ◌%◌, min, max, Bool, not, ◌&&◌, nat_le, if◌then◌else◌, List, count_by, is_some}
 use Rattle.std.specs.List.{zip}
-use Rattle.trace_base.specs.declared.layout.Layout.{Layout}
 use Rattle.page_pool.specs.Lines.{most_lines}
 use Rattle.page_pool.specs.declared.lane.Lane.{Lane}
 use Rattle.event_cursor.specs.Keys.{first_of}
 use Rattle.event_cursor.specs.Standing.{keyed_held}
 
 -- whether a lane may form a line: it holds an item, and its region takes lines
-abbrev pub may_form : Layout → Lane → Bool
-may_form layout lane = not (nat_le most_lines lane.region.used) && is_some (first_of (keyed_held layout lane))
+abbrev pub may_form : Lane → Bool
+may_form lane = not (nat_le most_lines lane.region.used) && is_some (first_of (keyed_held lane))
 
 -- whether a lane is busy: it is dirty, and may form a line
-abbrev pub is_busy : Layout → Lane × Bool → Bool
-is_busy layout marked = marked.1 && may_form layout marked.0
+abbrev pub is_busy : Lane × Bool → Bool
+is_busy marked = marked.1 && may_form marked.0
 
 -- how many lanes are busy, by their dirty bits
-abbrev pub busy_lanes : Layout → List Lane → List Bool → ℕ
-busy_lanes layout lanes moved = count_by (is_busy layout) (zip lanes moved)
+abbrev pub busy_lanes : List Lane → List Bool → ℕ
+busy_lanes lanes moved = count_by is_busy (zip lanes moved)
 
 -- How many of `count` lanes the first few of several workers get: each as many as any other, and the first ones one more
 -- until none is left over.

@@ -9,34 +9,36 @@ use Rattle.subpage.specs.ItemData.{ItemData}
 use Rattle.subpage.specs.ItemView.{item_view}
 use Rattle.subpage.specs.declared.mark.Mark.{Mark}
 use Rattle.subpage.specs.Marks.{IsMark, items_from, mark_of}
+use Rattle.page_pool.specs.InOrder.{HasAhead, HoldsPage, TellsAhead, all_items, item_ahead}
 use Rattle.page_pool.specs.declared.lane.Lane.{Lane}
 use Rattle.page_pool.specs.declared.cursor.Ahead.{Ahead}
+use Rattle.page_pool.specs.declared.cursor.Cursor.{Cursor}
 use Rattle.page_pool.specs.declared.cursor.LaneState.{LaneState}
 use Rattle.page_pool.specs.declared.cursor.LaneState.TheVariants.{Held}
 use Rattle.event_cursor.specs.Keys.{first_of, key_behind, keyed_behind}
 use Rattle.event_cursor.specs.Stepping.{IsHead, head_view}
-use Rattle.event_cursor.specs.Standing.{HasAhead, HoldsPage, IsInOrder, TellsAhead, if_held}
+use Rattle.event_cursor.specs.Standing.{if_held}
 
--- the lane with its place one item on
-abbrev pub moved : Lane → Ahead → Mark → Option Ahead → Lane
-moved a x mark next = record a { cursor = record a.cursor { at = a.cursor.at + 1; mark = mark; high = Some x.key; ahead = next } }
+-- the cursor with its place one item on
+abbrev pub moved : Cursor → Ahead → Mark → Option Ahead → Cursor
+moved c x mark next = record c { at = c.at + 1; mark = mark; high = Some x.key; ahead = next }
 
 -- what a lane that holds a sub-buffer tells of the item at its place
-pub ahead_of : (l : Layout) (a : Lane) (o : Option Ahead) → IsInOrder l a → a.cursor.state ≡ Held → a.cursor.ahead ≡ o → TellsAhead l a.page a.cursor.mark a.cursor.high o
-ahead_of l a o order held is = subst (TellsAhead l a.page a.cursor.mark a.cursor.high) is (order.held held).ahead
+pub ahead_of : (a : Lane) (o : Option Ahead) → a.cursor.state ≡ Held → a.cursor.ahead ≡ o → TellsAhead a.layout a.page a.cursor.mark a.cursor.high o
+ahead_of a o held is = subst (TellsAhead a.layout a.page a.cursor.mark a.cursor.high) is (a.in_order.held held).ahead
 
-pub step_holds : (l : Layout) (a : Lane) (x : Ahead) (mark : Mark) (next : Option Ahead) → HoldsPage l a → HasAhead l a.page a.cursor.mark a.cursor.high x → mark_of x.behind ≡ mark
-    → TellsAhead l a.page mark (Some x.key) next → HoldsPage l (moved a x mark next)
-step_holds l a x mark next h here same further =
-    let rest : drop a.cursor.at h.all ≡ here.first ∷ items_from l a.page mark = sym h.left ∙ here.items ∙ ap (λ (m : Mark). here.first ∷ items_from l a.page m) same in
-    let more : length (drop a.cursor.at h.all) ≡ suc (length (items_from l a.page mark)) = ap length rest in
+pub step_holds : (l : Layout) (page : List ℕ) (c : Cursor) (x : Ahead) (mark : Mark) (next : Option Ahead) → HoldsPage l page c → HasAhead l page c.mark c.high x → mark_of x.behind ≡ mark
+    → TellsAhead l page mark (Some x.key) next → HoldsPage l page (moved c x mark next)
+step_holds l page c x mark next h here same further =
+    let first = item_ahead page c.mark x in
+    let rest : drop c.at (all_items l page) ≡ first ∷ items_from l page mark = sym h.left ∙ here.items ∙ ap (λ (m : Mark). first ∷ items_from l page m) same in
+    let more : length (drop c.at (all_items l page)) ≡ suc (length (items_from l page mark)) = ap length rest in
     record {
-      all = h.all;
       all_are = h.all_are;
       few = h.few;
-      used_up = omega (arith, length-drop a.cursor.at h.all, h.used_up);
-      mark = subst (λ (m : Mark). IsMark l a.page m) same here.behind;
-      left = sym (ap (drop 1) rest) ∙ drop-drop 1 a.cursor.at h.all;
+      used_up = omega (arith, length-drop c.at (all_items l page), h.used_up);
+      mark = subst (λ (m : Mark). IsMark l page m) same here.behind;
+      left = sym (ap (drop 1) rest) ∙ drop-drop 1 c.at (all_items l page);
       ahead = further;
       next = h.next;
     }

@@ -56,24 +56,24 @@ read_there l len size part k before after long e there is le =
     subst (λ (n : ℕ). after ≤ raised before n) (is ∙ sym all) le
 
 -- one sub-buffer more, by a file whose length is the same
-module _ (l : Layout) (len now_len : ℕ) (first mid new : Lane) (same : now_len ≡ len) (start before after : ℕ)
-    (read : before ≤ raised start (unread l len first - unread l len mid)) (less : unread l len mid ≤ unread l len first)
-    (more : after ≤ raised before (size_there l now_len mid.part mid.cursor.next)) where
-  here : after ≤ raised before (size_there l len mid.part mid.cursor.next)
-  here = subst (λ (n : ℕ). after ≤ raised before (size_there l n mid.part mid.cursor.next)) same more
+module _ (len now_len : ℕ) (first mid new : Lane) (same : now_len ≡ len) (start before after : ℕ)
+    (read : before ≤ raised start (unread len first - unread len mid)) (less : unread len mid ≤ unread len first)
+    (more : after ≤ raised before (size_there mid.layout now_len mid.part mid.cursor.next)) where
+  here : after ≤ raised before (size_there mid.layout len mid.part mid.cursor.next)
+  here = subst (λ (n : ℕ). after ≤ raised before (size_there mid.layout n mid.part mid.cursor.next)) same more
 
-  pub asked_reads : IsAsked l now_len mid new → after ≤ raised start (unread l len first - unread l len new + reading l len new)
-  asked_reads a = let b = subst (λ (n : ℕ). IsAsked l n mid new) same a in omega (arith, read, less, here, b.less, b.asked)
+  pub asked_reads : IsAsked now_len mid new → after ≤ raised start (unread len first - unread len new + reading len new)
+  asked_reads a = let b = subst (λ (n : ℕ). IsAsked n mid new) same a in omega (arith, read, less, here, b.less, b.asked)
 
-  pub asked_less : IsAsked l now_len mid new → unread l len new ≤ unread l len first
-  asked_less a = let b = subst (λ (n : ℕ). IsAsked l n mid new) same a in omega (arith, less, b.less)
+  pub asked_less : IsAsked now_len mid new → unread len new ≤ unread len first
+  asked_less a = let b = subst (λ (n : ℕ). IsAsked n mid new) same a in omega (arith, less, b.less)
 
-  pub passed_reads : unread l now_len mid ≡ unread l now_len new + size_there l now_len mid.part mid.cursor.next → after ≤ raised start (unread l len first - unread l len new)
+  pub passed_reads : unread now_len mid ≡ unread now_len new + size_there mid.layout now_len mid.part mid.cursor.next → after ≤ raised start (unread len first - unread len new)
   passed_reads a =
-      let b = subst (λ (n : ℕ). unread l n mid ≡ unread l n new + size_there l n mid.part mid.cursor.next) same a in
+      let b = subst (λ (n : ℕ). unread n mid ≡ unread n new + size_there mid.layout n mid.part mid.cursor.next) same a in
       omega (arith, read, less, here, b)
 
-  pub passed_less : unread l now_len mid ≡ unread l now_len new + size_there l now_len mid.part mid.cursor.next → unread l len new ≤ unread l len first
+  pub passed_less : unread now_len mid ≡ unread now_len new + size_there mid.layout now_len mid.part mid.cursor.next → unread len new ≤ unread len first
   passed_less a =
-      let b = subst (λ (n : ℕ). unread l n mid ≡ unread l n new + size_there l n mid.part mid.cursor.next) same a in
+      let b = subst (λ (n : ℕ). unread n mid ≡ unread n new + size_there mid.layout n mid.part mid.cursor.next) same a in
       omega (arith, less, b)

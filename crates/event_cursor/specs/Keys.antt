@@ -1,11 +1,8 @@
 -- Keys that go on after items that were used up.
-use Rattle.std.specs.Prelude.{ℕ, max, List, [], ◌∷◌, Option, Some, None, unwrap_or}
-use Rattle.subpage.specs.ItemData.{ItemData, item_time}
+use Rattle.std.specs.Prelude.{ℕ, List, [], ◌∷◌, Option, Some, None, unwrap_or}
+use Rattle.subpage.specs.ItemData.{ItemData}
 use Rattle.subpage.specs.Arrangement.{Keyed, keyed_from}
-
--- the key of an item that follows those whose greatest time is high, if there are any
-abbrev pub key_behind : Option ℕ → ItemData → ℕ
-key_behind high item = max (unwrap_or high 0) (item_time item)
+pub use Rattle.page_pool.specs.InOrder.{key_behind}
 
 -- a processor's items that follow those, with their keys
 abbrev pub keyed_behind : ℕ → Option ℕ → List ItemData → List Keyed

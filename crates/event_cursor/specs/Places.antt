@@ -63,13 +63,13 @@ IsSought place lane sought.Held = HoldsAt place lane
 IsSought place lane sought.Malformed = lane.cursor.state ≡ Fresh
 
 -- The lane stands at the place, and has left what is after it.
-pub record StandsAt (layout : Layout) (file : List ℕ) (place : Place) (lane : Lane) : Type 0 where
-  pub stands : Stands layout file lane
-  pub left : left_of layout file lane ≡ left_behind layout file lane.part place
-  pub bad : bad_left layout file lane ≡ bad_behind layout file lane.part place
+pub record StandsAt (file : List ℕ) (place : Place) (lane : Lane) : Type 0 where
+  pub stands : Stands file lane
+  pub left : left_of file lane ≡ left_behind lane.layout file lane.part place
+  pub bad : bad_left file lane ≡ bad_behind lane.layout file lane.part place
 
 -- what the answer says of the file and the part: Malformed just where the part has no such place
 abbrev pub SoughtIn : Layout → List ℕ → Part → Place → Lane → Sought → Type 0
 SoughtIn layout file part place lane sought.Held =
-    HasPlace layout file part place × (IsPlace layout file part place → StandsAt layout file place lane)
+    HasPlace layout file part place × (IsPlace layout file part place → StandsAt file place lane)
 SoughtIn layout file part place lane sought.Malformed = HasPlace layout file part place → ⊥

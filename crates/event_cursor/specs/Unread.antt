@@ -31,8 +31,8 @@ first_unread Ended next = next
 first_unread Malformed next = next + 1
 
 -- the bytes of the sub-buffers that a lane has not read
-abbrev pub unread : Layout → ℕ → Lane → ℕ
-unread layout len lane = size_from layout len lane.part (first_unread lane.cursor.state lane.cursor.next)
+abbrev pub unread : ℕ → Lane → ℕ
+unread len lane = size_from lane.layout len lane.part (first_unread lane.cursor.state lane.cursor.next)
 
 -- those of the one that it may be reading
 abbrev pub reading_in : LaneState → ℕ → ℕ
@@ -41,11 +41,11 @@ reading_in Held size = 0
 reading_in Ended size = 0
 reading_in Malformed size = 0
 
-abbrev pub reading : Layout → ℕ → Lane → ℕ
-reading layout len lane = reading_in lane.cursor.state (size_there layout len lane.part lane.cursor.next)
+abbrev pub reading : ℕ → Lane → ℕ
+reading len lane = reading_in lane.cursor.state (size_there lane.layout len lane.part lane.cursor.next)
 
 -- The lane asked for its next sub-buffer: that was read, or may have been.
-pub record IsAsked (layout : Layout) (len : ℕ) (before now : Lane) : Type 0 where
-  pub less : unread layout len now ≤ unread layout len before
-  pub asked : unread layout len before + reading layout len now
-      ≡ unread layout len now + size_there layout len before.part before.cursor.next
+pub record IsAsked (len : ℕ) (before now : Lane) : Type 0 where
+  pub less : unread len now ≤ unread len before
+  pub asked : unread len before + reading len now
+      ≡ unread len now + size_there before.layout len before.part before.cursor.next

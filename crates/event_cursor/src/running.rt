@@ -1,15 +1,12 @@
 // Over a run of plain records.
 
 ghost use Rattle.std.specs.Prelude.{◌≡◌, ◌<◌, max, unwrap_or};
-ghost use Rattle.trace_base.specs.declared.layout.Layout.{Layout};
 ghost use Rattle.subpage.specs.Run.{IsRunTo};
-ghost use Rattle.event_cursor.specs.Standing.{IsInOrder};
 ghost use Rattle.event_cursor.specs.Stepping.{IsSteppedOver};
 
 use crate::stepping::ahead_at;
 use page_pool::{Lane, LaneState};
 use subpage::Mark;
-use trace_base::Layout;
 
 // The greatest time up to one that is no earlier than those right before it.
 fn high_up_to(high: Option<u64>, time: u64) -> u64
@@ -23,17 +20,15 @@ fn high_up_to(high: Option<u64>, time: u64) -> u64
 
 /// Uses up the items of a run of plain records, which stands at the lane's place and ends at `next`: only the item after it
 /// is read.
-pub fn step_run(layout: &Layout, lane: &mut Lane, next: Mark, count: u32)
-    requires in_order { IsInOrder layout.now lane.old }
+pub fn step_run(lane: &mut Lane, next: Mark, count: u32)
     requires held { lane.old.cursor.state ≡ LaneState.Held }
-    requires run { IsRunTo layout.now lane.old.page lane.old.cursor.mark next count }
+    requires run { IsRunTo lane.old.layout lane.old.page lane.old.cursor.mark next count }
     requires some { 0 < count }
-    ensures in_order { IsInOrder layout.now lane.new }
-    ensures used { (run : IsRunTo layout.now lane.old.page lane.old.cursor.mark next count)
-        → IsSteppedOver layout.now run.items lane.old lane.new }
+    ensures used { (run : IsRunTo lane.old.layout lane.old.page lane.old.cursor.mark next count)
+        → IsSteppedOver run.items lane.old lane.new }
 {
     let high = Some(high_up_to(lane.cursor.high, next.time()));
-    lane.cursor.ahead = ahead_at(layout, lane.page.bytes(), next, high);
+    lane.cursor.ahead = ahead_at(&lane.layout, lane.page.bytes(), next, high);
     lane.cursor.mark = next;
     lane.cursor.at += count;
     lane.cursor.high = high;

@@ -6,7 +6,7 @@ ghost use Rattle.page_pool.specs.Keeping.{KeepsLane, seeking};
 ghost use Rattle.event_cursor.specs.Fetched.{HoldsItems, IsFetched, IsOwnPage};
 ghost use Rattle.event_cursor.specs.Passing.{IsPassedBy};
 ghost use Rattle.event_cursor.specs.Places.{IsSought, SoughtIn};
-ghost use Rattle.event_cursor.specs.Standing.{IsInOrder, Stands};
+ghost use Rattle.event_cursor.specs.Standing.{Stands};
 ghost use Rattle.event_cursor.specs.Unread.{is_there_in};
 
 use crate::fetching::fetch;
@@ -80,32 +80,26 @@ fn holds_page(lane: &Lane, number: u64) -> bool
 
 /// The position before the first item of a sub-buffer of the lane's part, which is read and checked unless it is held.
 /// `None`: it is malformed.
-fn turn_to<F: File>(
-    layout: &Layout,
-    number: u64,
-    file: &mut F,
-    lane: &mut Lane,
-) -> Result<Option<Mark>, Failed>
-    requires in_order { IsInOrder layout.now lane.old }
-    ensures long { length lane.new.page ≡ layout.now.page }
-    ensures holds { IfOk result (HoldsItems layout.now lane.new.page) }
+fn turn_to<F: File>(number: u64, file: &mut F, lane: &mut Lane) -> Result<Option<Mark>, Failed>
+    ensures holds { IfOk result (HoldsItems lane.new.layout lane.new.page) }
     ensures part { KeepsLane seeking lane.old lane.new }
-    ensures own { IfOk result (λ found. IfSome (F.bytes file.old) (λ bytes. Stands layout.now bytes lane.old
-        → IsOwnPage layout.now bytes lane.new.part number lane.new.page found)) }
-    ensures told { IfOk result (λ found. IfSome (F.bytes file.old) (λ bytes. Stands layout.now bytes lane.old
-        → IsFetched layout.now bytes lane.new.part number lane.new.page found)) }
+    ensures own { IfOk result (λ found. IfSome (F.bytes file.old) (λ bytes. Stands bytes lane.old
+        → IsOwnPage lane.new.layout bytes lane.new.part number lane.new.page found)) }
+    ensures told { IfOk result (λ found. IfSome (F.bytes file.old) (λ bytes. Stands bytes lane.old
+        → IsFetched lane.new.layout bytes lane.new.part number lane.new.page found)) }
     ensures failed { OnErr result (lane.new.cursor.state ≡ LaneState.Fresh) }
     ensures cause { HasCause (F.faults file.old) (F.faults file.new) result }
     ensures held { lane.old.cursor.state ≡ LaneState.Held → lane.old.cursor.held ≡ number
         → F.reads file.new ≡ F.reads file.old }
-    ensures reads { F.reads file.new ≤ raised (F.reads file.old) layout.now.page }
+    ensures reads { F.reads file.new ≤ raised (F.reads file.old) lane.old.layout.page }
     ensures keeps { KeepsFile F.File file.old file.new }
 {
+    let layout = lane.layout;
     if holds_page(lane, number) {
-        return Ok(Some(open_checked(layout, lane.page.bytes())));
+        return Ok(Some(open_checked(&layout, lane.page.bytes())));
     }
     lane.cursor.state = LaneState::Fresh;
-    fetch(layout, file, lane.part, number, &mut lane.page)
+    fetch(&layout, file, lane.part, number, &mut lane.page)
 }
 
 /// Goes back to a place: the lane holds the sub-buffer `place.page` at its item `place.at`, with `place.high` as the
@@ -116,35 +110,29 @@ fn turn_to<F: File>(
 ///
 /// # Errors
 /// `Failed` where a read failed. The lane holds no sub-buffer then, and is not to be used again.
-pub fn seek<F: File>(
-    layout: &Layout,
-    place: &Place,
-    file: &mut F,
-    lane: &mut Lane,
-) -> Result<Sought, Failed>
-    requires in_order { IsInOrder layout.now lane.old }
-    requires there { is_there_in layout.now (F.size file.old) lane.old.part place.now.page ≡ true }
-    ensures in_order { IsInOrder layout.now lane.new }
+pub fn seek<F: File>(place: &Place, file: &mut F, lane: &mut Lane) -> Result<Sought, Failed>
+    requires there { is_there_in lane.old.layout (F.size file.old) lane.old.part place.now.page ≡ true }
     ensures part { KeepsLane seeking lane.old lane.new }
     ensures sought { IfOk result (IsSought place.now lane.new) }
     ensures failed { OnErr result (lane.new.cursor.state ≡ LaneState.Fresh) }
-    ensures told { IfOk result (λ sought. IfSome (F.bytes file.old) (λ bytes. Stands layout.now bytes lane.old
-        → SoughtIn layout.now bytes lane.old.part place.now lane.new sought)) }
+    ensures told { IfOk result (λ sought. IfSome (F.bytes file.old) (λ bytes. Stands bytes lane.old
+        → SoughtIn lane.old.layout bytes lane.old.part place.now lane.new sought)) }
     ensures cause { HasCause (F.faults file.old) (F.faults file.new) result }
     ensures held { lane.old.cursor.state ≡ LaneState.Held → lane.old.cursor.held ≡ place.now.page
         → F.reads file.new ≡ F.reads file.old }
-    ensures reads { F.reads file.new ≤ raised (F.reads file.old) layout.now.page }
+    ensures reads { F.reads file.new ≤ raised (F.reads file.old) lane.old.layout.page }
     ensures keeps { KeepsFile F.File file.old file.new }
 {
-    let found = turn_to(layout, place.page, file, lane)?;
+    let found = turn_to(place.page, file, lane)?;
     lane.cursor.state = LaneState::Fresh;
+    let layout = lane.layout;
     let Some(first) = found else {
         return Ok(Sought::Malformed);
     };
-    let Some(mark) = pass(layout, lane.page.bytes(), first, place.at) else {
+    let Some(mark) = pass(&layout, lane.page.bytes(), first, place.at) else {
         return Ok(Sought::Malformed);
     };
-    let ahead = ahead_at(layout, lane.page.bytes(), mark, place.high);
+    let ahead = ahead_at(&layout, lane.page.bytes(), mark, place.high);
     lane.cursor = Cursor {
         state: LaneState::Held,
         held: place.page,

@@ -1,10 +1,10 @@
 ghost use Rattle.std.specs.Prelude.{◌≡◌, ◌+◌, ◌<◌, length, option_map};
-ghost use Rattle.trace_base.specs.declared.layout.Layout.{Layout};
 ghost use Rattle.subpage.specs.Arrangement.{key_of};
 ghost use Rattle.subpage.specs.ItemView.{item_view};
 ghost use Rattle.subpage.specs.Marks.{IsMark, items_from};
 ghost use Rattle.event_cursor.specs.Keys.{key_behind, first_of};
-ghost use Rattle.event_cursor.specs.Standing.{IsInOrder, TellsAhead, held_left, keyed_held, most_left};
+ghost use Rattle.page_pool.specs.InOrder.{TellsAhead};
+ghost use Rattle.event_cursor.specs.Standing.{held_left, keyed_held, most_left};
 ghost use Rattle.event_cursor.specs.Stepping.{IsHead, IsStepped, head_view};
 
 use page_pool::{Ahead, Cursor, Lane, LaneState};
@@ -45,8 +45,7 @@ pub(crate) fn ahead_at(layout: &Layout, page: &[u8], mark: Mark, high: Option<u6
 
 /// The key of the item that [`head`] gives.
 pub fn head_key(lane: &Lane) -> Option<u64>
-    ensures { (layout : Layout) → IsInOrder layout lane.now
-        → result ≡ option_map key_of (first_of (keyed_held layout lane.now)) }
+    ensures { result ≡ option_map key_of (first_of (keyed_held lane.now)) }
 {
     if lane.cursor.state != LaneState::Held {
         return None;
@@ -75,25 +74,35 @@ pub fn head_at<'a>(layout: &Layout, cursor: &Cursor, page: &'a [u8]) -> Option<(
 
 /// The first item of the held sub-buffer that is not used up, with its key. `None` exactly where the held one is used up
 /// or none is held.
-pub fn head<'a>(layout: &Layout, lane: &'a Lane) -> Option<(u64, Item<'a>)>
-    requires { IsInOrder layout.now lane.now }
-    ensures { option_map (λ head. head_view lane.now.cpu head) result ≡ first_of (keyed_held layout.now lane.now) }
+pub fn head(lane: &Lane) -> Option<(u64, Item<'_>)>
+    ensures { option_map (λ head. head_view lane.now.cpu head) result ≡ first_of (keyed_held lane.now) }
 {
     if lane.cursor.state != LaneState::Held {
         return None;
     }
-    head_at(layout, &lane.cursor, lane.page.bytes())
+    head_at(&lane.layout, &lane.cursor, lane.page.bytes())
 }
 
 /// Uses up the item that [`head`] gives. The loop over a lane's items keeps it within itself.
 #[inline(always)]
-pub fn step(layout: &Layout, lane: &mut Lane)
-    requires in_order { IsInOrder layout.now lane.old }
+pub fn step(lane: &mut Lane)
     requires held { lane.old.cursor.state ≡ LaneState.Held }
-    requires some { 0 < length (held_left layout.now lane.old) }
-    ensures in_order { IsInOrder layout.now lane.new }
-    ensures used { IsStepped layout.now lane.old lane.new }
-    ensures most { most_left layout.now lane.new + 1 ≡ most_left layout.now lane.old }
+    requires some { 0 < length (held_left lane.old) }
+    ensures used { IsStepped lane.old lane.new }
+    ensures most { most_left lane.new + 1 ≡ most_left lane.old }
+{
+    let layout = lane.layout;
+    step_by(&layout, lane)
+}
+
+/// The same by the lane's layout, of which the caller may know more than the lane tells.
+#[inline(always)]
+pub fn step_by(layout: &Layout, lane: &mut Lane)
+    requires layout { lane.old.layout ≡ layout.now }
+    requires held { lane.old.cursor.state ≡ LaneState.Held }
+    requires some { 0 < length (held_left lane.old) }
+    ensures used { IsStepped lane.old lane.new }
+    ensures most { most_left lane.new + 1 ≡ most_left lane.old }
 {
     if let Some(ahead) = lane.cursor.ahead {
         let high = Some(ahead.key);

@@ -4,11 +4,11 @@ ghost use Rattle.trace_outside.specs.Keeping.{KeepsFile};
 ghost use Rattle.subpage.specs.Arrangement.{CpusRise};
 ghost use Rattle.subpage.specs.Cut.{cut_of, reached_of};
 ghost use Rattle.subpage.specs.CutPlaces.{place_of};
-ghost use Rattle.page_pool.specs.Fresh.{IsFresh};
 ghost use Rattle.page_pool.specs.declared.lane.Lane.{Lane};
 ghost use Rattle.time_merge.specs.LaneNexts.{cut_at};
 ghost use Rattle.time_merge.specs.LaneRows.{parts_of};
 ghost use Rattle.time_merge.specs.Skipping.{by_item};
+ghost use Rattle.time_merge.specs.Unused.{IsUnused};
 ghost use Rattle.item_pass.specs.Faults.{KeptUnlessRead};
 ghost use Rattle.item_pass.specs.Gathering.{cut_place};
 ghost use Rattle.item_pass.specs.declared.passing.PassFault.TheVariants.{Read};
@@ -79,7 +79,7 @@ fn pass_lanes<G: Gatherer, F: File>(
     lanes: &mut Lanes,
     gathered: &mut G::Gathered,
 ) -> Result<Option<CutPlace>, PassFault>
-    requires fresh { All (λ lane. IsFresh lane.cursor) lanes.old.all }
+    requires unused { All (IsUnused lanes.old.layout 0) lanes.old.all }
     requires sound { G.is_sound gatherer.now }
     requires none { G.holds gatherer.now [] gathered.old }
     ensures gathered { OnOk result (IfSome (F.bytes file.old) (λ bytes. G.holds gatherer.now

@@ -22,7 +22,7 @@ pub(crate) fn take_head<G: Gatherer>(
     requires known { (xs : List Keyed) × G.holds gatherer.now xs gathered.old }
     ensures known { OnOk result ((xs : List Keyed) × G.holds gatherer.now xs gathered.new) }
     ensures taken { (d : Lane) (xs : List Keyed) (x : Keyed)
-        → first_of (keyed_held lanes.now.layout (slice_index_or lanes.now.all i d)) ≡ Some x → G.holds gatherer.now xs gathered.old
+        → first_of (keyed_held (slice_index_or lanes.now.all i d)) ≡ Some x → G.holds gatherer.now xs gathered.old
         → OnOk result (G.holds gatherer.now (and_item (G.matters gatherer.now) xs x) gathered.new) }
 {
     match lanes.head(i) {

@@ -17,7 +17,7 @@ use Rattle.time_merge.proofs.PartReads.{all_inside}
 use Rattle.time_merge.proofs.Starting.{cut_of_rows as one_cut, fresh_come, fresh_stands}
 use Rattle.multi_report.specs.Order.{ShownFile, FileItem, FileCut, cut_in, key_in, file_in, numbered, numbered_from, own_cut, cut_of_files, reached}
 use Rattle.multi_report.specs.Merge.{row_cut, row_with, file_row}
-use Rattle.multi_report.specs.Sources.{SourceView, HasRoom, IsSame, IsKnown, IsFreshSource, Keeps, bytes_of, due, shown_of, left_row, to_come_of}
+use Rattle.multi_report.specs.Sources.{SourceView, HasOwnLayouts, HasRoom, IsSame, IsKnown, IsFreshSource, Keeps, bytes_of, due, shown_of, left_row, to_come_of}
 use Rattle.multi_report.specs.Reports.{AllReadTheirParts, AreSame}
 use Rattle.multi_report.proofs.Merging.{Fits, FitsFile, fits_of, mark, cut_of_rows, reached_merged}
 use Rattle.multi_report.proofs.FileRows.{rows_from}
@@ -100,45 +100,45 @@ unfolding to_come_of
 left_keeps xs ys long tied known = ap (coming key_in file_in) (rows_keep 0 xs ys long tied known)
 
 -- before the first item all reached items are left
-fresh_row : (n : ℕ) (s : SourceView) → IsFreshSource s → left_row (n, s) ≡ file_row (n, shown_of s)
-fresh_row n s fresh =
-    ap (λ (xs : List Keyed). row_with n xs (least_cut (rows_of s.layout (bytes_of s) s.lanes))) (fresh_come s.layout (bytes_of s) s.lanes fresh)
-    ∙ ap (row_with n _) (one_cut s.layout (bytes_of s) s.lanes)
+fresh_row : (n : ℕ) (s : SourceView) → HasOwnLayouts s → IsFreshSource s → left_row (n, s) ≡ file_row (n, shown_of s)
+fresh_row n s layouts fresh =
+    ap (λ (xs : List Keyed). row_with n xs (least_cut (rows_of (bytes_of s) s.lanes))) (fresh_come s.layout (bytes_of s) s.lanes layouts fresh)
+    ∙ ap (row_with n _) (one_cut s.layout (bytes_of s) s.lanes layouts)
 
-fresh_rows : (n : ℕ) (sources : List SourceView) → All IsFreshSource sources → rows_from n sources ≡ map file_row (numbered_from n (map shown_of sources))
-fresh_rows n [] fresh = refl
-fresh_rows n (s ∷ sources) fresh =
-    ap (λ (r : Row FileItem). r ∷ rows_from (n + 1) sources) (fresh_row n s (All-head IsFreshSource s sources fresh))
-    ∙ ap (λ (rs : List (Row FileItem)). file_row (n, shown_of s) ∷ rs) (fresh_rows (n + 1) sources (All-tail IsFreshSource s sources fresh))
+fresh_rows : (n : ℕ) (sources : List SourceView) → All HasOwnLayouts sources → All IsFreshSource sources → rows_from n sources ≡ map file_row (numbered_from n (map shown_of sources))
+fresh_rows n [] layouts fresh = refl
+fresh_rows n (s ∷ sources) layouts fresh =
+    ap (λ (r : Row FileItem). r ∷ rows_from (n + 1) sources) (fresh_row n s (All-head HasOwnLayouts s sources layouts) (All-head IsFreshSource s sources fresh))
+    ∙ ap (λ (rs : List (Row FileItem)). file_row (n, shown_of s) ∷ rs) (fresh_rows (n + 1) sources (All-tail HasOwnLayouts s sources layouts) (All-tail IsFreshSource s sources fresh))
 
-pub fresh_left : (sources : List SourceView) → All IsFreshSource sources → to_come_of sources ≡ reached (map shown_of sources)
+pub fresh_left : (sources : List SourceView) → All HasOwnLayouts sources → All IsFreshSource sources → to_come_of sources ≡ reached (map shown_of sources)
 unfolding to_come_of
-fresh_left sources fresh = ap (coming key_in file_in) (fresh_rows 0 sources fresh) ∙ sym (reached_merged (map shown_of sources))
+fresh_left sources layouts fresh = ap (coming key_in file_in) (fresh_rows 0 sources layouts fresh) ∙ sym (reached_merged (map shown_of sources))
 
-fresh_known : (s : SourceView) → IsSome s.told → IsFreshSource s → IsKnown s
-fresh_known s told fresh = record { told = told; stands = all s.lanes fresh }
+fresh_known : (s : SourceView) → IsSome s.told → HasOwnLayouts s → IsFreshSource s → IsKnown s
+fresh_known s told layouts fresh = record { told = told; layouts = layouts; stands = all s.lanes fresh }
   where
-    all : (lanes : List Lane) → All (λ (lane : Lane). IsFresh lane.cursor) lanes → All (Stands s.layout (bytes_of s)) lanes
+    all : (lanes : List Lane) → All (λ (lane : Lane). IsFresh lane.cursor) lanes → All (Stands (bytes_of s)) lanes
     all [] f = λ i d lt. absurd (omega (arith, lt))
-    all (a ∷ lanes) f = All-from_get_or (Stands s.layout (bytes_of s)) (a ∷ lanes) a (λ i lt. fresh_stands s.layout (bytes_of s) (get_or (a ∷ lanes) i a) (All-get_or (λ (lane : Lane). IsFresh lane.cursor) (a ∷ lanes) i a lt f))
+    all (a ∷ lanes) f = All-from_get_or (Stands (bytes_of s)) (a ∷ lanes) a (λ i lt. fresh_stands (bytes_of s) (get_or (a ∷ lanes) i a) (All-get_or (λ (lane : Lane). IsFresh lane.cursor) (a ∷ lanes) i a lt f))
 
-pub all_fresh_known : (sources : List SourceView) → All IsFreshSource sources → All (λ source. IsSome source.told) sources → All IsKnown sources
-all_fresh_known [] fresh told = λ i d lt. absurd (omega (arith, lt))
-all_fresh_known (s ∷ sources) fresh told =
-    All-from_get_or IsKnown (s ∷ sources) s (λ i lt. fresh_known (get_or (s ∷ sources) i s) (All-get_or (λ (x : SourceView). IsSome x.told) (s ∷ sources) i s lt told) (All-get_or IsFreshSource (s ∷ sources) i s lt fresh))
+pub all_fresh_known : (sources : List SourceView) → All HasOwnLayouts sources → All IsFreshSource sources → All (λ source. IsSome source.told) sources → All IsKnown sources
+all_fresh_known [] layouts fresh told = λ i d lt. absurd (omega (arith, lt))
+all_fresh_known (s ∷ sources) layouts fresh told =
+    All-from_get_or IsKnown (s ∷ sources) s (λ i lt. fresh_known (get_or (s ∷ sources) i s) (All-get_or (λ (x : SourceView). IsSome x.told) (s ∷ sources) i s lt told) (All-get_or HasOwnLayouts (s ∷ sources) i s lt layouts) (All-get_or IsFreshSource (s ∷ sources) i s lt fresh))
 
 -- whatever ended a report, no more was read of each file than the parts of its lanes have
 pub parts_read : (xs ys : List SourceView) → AreSame xs ys → AllReadTheirParts xs ys
 parts_read xs ys same i d lt =
     let s = get_or xs i d in
-    omega (arith, (same.each i d lt).reads, all_inside s.layout s.size s.lanes)
+    omega (arith, (same.each i d lt).reads, all_inside s.size s.lanes)
 
 -- the least cut, by the file that it comes from
-cuts_left : (n : ℕ) (sources : List SourceView) → map (λ (r : Row FileItem). r.cut) (rows_from n sources) ≡ map (λ (r : Row FileItem). r.cut) (map file_row (numbered_from n (map shown_of sources)))
-cuts_left n [] = refl
-cuts_left n (s ∷ sources) =
-    ap (λ (c : Option Cut). option_map (row_cut n) c ∷ map (λ (r : Row FileItem). r.cut) (rows_from (n + 1) sources)) (one_cut s.layout (bytes_of s) s.lanes)
-    ∙ ap (λ (cs : List (Option Cut)). option_map (row_cut n) (own_cut (shown_of s)) ∷ cs) (cuts_left (n + 1) sources)
+cuts_left : (n : ℕ) (sources : List SourceView) → All HasOwnLayouts sources → map (λ (r : Row FileItem). r.cut) (rows_from n sources) ≡ map (λ (r : Row FileItem). r.cut) (map file_row (numbered_from n (map shown_of sources)))
+cuts_left n [] layouts = refl
+cuts_left n (s ∷ sources) layouts =
+    ap (λ (c : Option Cut). option_map (row_cut n) c ∷ map (λ (r : Row FileItem). r.cut) (rows_from (n + 1) sources)) (one_cut s.layout (bytes_of s) s.lanes (All-head HasOwnLayouts s sources layouts))
+    ∙ ap (λ (cs : List (Option Cut)). option_map (row_cut n) (own_cut (shown_of s)) ∷ cs) (cuts_left (n + 1) sources (All-tail HasOwnLayouts s sources layouts))
 
 same_cuts : (xs ys : List (Row FileItem)) → map (λ (r : Row FileItem). r.cut) xs ≡ map (λ (r : Row FileItem). r.cut) ys → least_cut xs ≡ least_cut ys
 same_cuts xs ys e = of_cuts xs ∙ ap (λ (cs : List (Option Cut)). fold earlier None (filter_map (λ c. c) cs)) e ∙ sym (of_cuts ys)
@@ -150,11 +150,11 @@ same_cuts xs ys e = of_cuts xs ∙ ap (λ (cs : List (Option Cut)). fold earlier
     of_cuts : (xs : List (Row FileItem)) → least_cut xs ≡ fold earlier None (filter_map (λ (c : Option Cut). c) (map (λ (r : Row FileItem). r.cut) xs))
     of_cuts xs = ap (fold earlier None) (plain xs)
 
-left_cut : (sources : List SourceView) → least_cut (rows_from 0 sources) ≡ option_map mark (cut_of_files (map shown_of sources))
-left_cut sources = same_cuts (rows_from 0 sources) (map file_row (numbered (map shown_of sources))) (cuts_left 0 sources) ∙ cut_of_rows (map shown_of sources)
+left_cut : (sources : List SourceView) → All HasOwnLayouts sources → least_cut (rows_from 0 sources) ≡ option_map mark (cut_of_files (map shown_of sources))
+left_cut sources layouts = same_cuts (rows_from 0 sources) (map file_row (numbered (map shown_of sources))) (cuts_left 0 sources layouts) ∙ cut_of_rows (map shown_of sources)
 
-pub no_cut : (sources : List SourceView) → least_cut (rows_from 0 sources) ≡ None → cut_of_files (map shown_of sources) ≡ None
-no_cut sources e = of_none (cut_of_files (map shown_of sources)) (sym (left_cut sources) ∙ e)
+pub no_cut : (sources : List SourceView) → All HasOwnLayouts sources → least_cut (rows_from 0 sources) ≡ None → cut_of_files (map shown_of sources) ≡ None
+no_cut sources layouts e = of_none (cut_of_files (map shown_of sources)) (sym (left_cut sources layouts) ∙ e)
   where
     of_none : (o : Option FileCut) → option_map mark o ≡ None → o ≡ None
     of_none None e = refl
@@ -165,16 +165,16 @@ numbered_at P n [] j k d lt e h = absurd (omega arith)
 numbered_at P n (g ∷ files) zero k d lt e h = let same : n ≡ k = omega (arith, e) in subst (λ (m : ℕ). P (m, g)) same (All-head P (n, g) (numbered_from (n + 1) files) h)
 numbered_at P n (g ∷ files) (suc j) k d lt e h = numbered_at P (n + 1) files j k d (omega arith) (omega (arith, e)) (All-tail P (n, g) (numbered_from (n + 1) files) h)
 
-pub one_cut_is : (sources : List SourceView) (j : ℕ) (d : SourceView) (cut : Cut) → j < length sources → least_cut (rows_from 0 sources) ≡ Some (row_cut j cut)
-    → least_cut (rows_of (get_or sources j d).layout (bytes_of (get_or sources j d)) (get_or sources j d).lanes) ≡ Some cut
+pub one_cut_is : (sources : List SourceView) (j : ℕ) (d : SourceView) (cut : Cut) → All HasOwnLayouts sources → j < length sources → least_cut (rows_from 0 sources) ≡ Some (row_cut j cut)
+    → least_cut (rows_of (bytes_of (get_or sources j d)) (get_or sources j d).lanes) ≡ Some cut
     → cut_of_files (map shown_of sources) ≡ Some (cut_in j cut)
-one_cut_is sources j d cut lt least is =
+one_cut_is sources j d cut layouts lt least is =
     let s = get_or sources j d in
     let files = map shown_of sources in
-    let own : own_cut (shown_of s) ≡ Some cut = sym (one_cut s.layout (bytes_of s) s.lanes) ∙ is in
+    let own : own_cut (shown_of s) ≡ Some cut = sym (one_cut s.layout (bytes_of s) s.lanes (All-get_or HasOwnLayouts sources j d lt layouts)) ∙ is in
     let shown : get_or files j (shown_of d) ≡ shown_of s = get_or-map shown_of sources j d (shown_of d) lt in
     let fits : Fits (cut_of_files files) j (own_cut (get_or files j (shown_of d))) = numbered_at (FitsFile (cut_of_files files)) 0 files j j (shown_of d) (omega (arith, length-map sources shown_of, lt)) (omega arith) (fits_of files) in
-    by (cut_of_files files) (sym (left_cut sources) ∙ least) (subst (Fits (cut_of_files files) j) (ap own_cut shown ∙ own) fits)
+    by (cut_of_files files) (sym (left_cut sources layouts) ∙ least) (subst (Fits (cut_of_files files) j) (ap own_cut shown ∙ own) fits)
   where
     by : (o : Option FileCut) → option_map mark o ≡ Some (row_cut j cut) → Fits o j (Some cut) → o ≡ Some (cut_in j cut)
     by None e fits = absurd cc

@@ -10,3 +10,4 @@ pub mod TakenItems
 pub mod TurnLaws
 pub mod ReportLaws
 pub mod HeadLines
+pub mod OwnLayouts

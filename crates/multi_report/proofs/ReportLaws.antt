@@ -10,7 +10,7 @@ use Rattle.multi_report.specs.declared.report.FilesEnd.{FilesEnd}
 use Rattle.multi_report.specs.declared.report.FilesEnd.TheVariants as code
 use Rattle.multi_report.specs.Order.{ShownFile, cut_of_files, reached}
 use Rattle.tournament_tree.specs.declared.slot_key.SlotKey.{SlotKey}
-use Rattle.multi_report.specs.Sources.{SourceView, IsFreshSource, IsKnown, Keeps, shown_of, next_key, to_come_of}
+use Rattle.multi_report.specs.Sources.{SourceView, HasOwnLayouts, IsFreshSource, IsKnown, Keeps, shown_of, next_key, to_come_of}
 use Rattle.multi_report.specs.Pieces.{text_of}
 use Rattle.multi_report.specs.Reports.{AreSame, IsEnded, IsFilesReport, ReadRose, head_line, lines, pieces}
 use Rattle.multi_report.specs.Turns.{EndsWith, Going, IsUnderway, ReportState, lines_left, state_of}
@@ -25,13 +25,13 @@ abbrev pub heads_of : List SourceView → List (List ℕ)
 heads_of sources = map head_line (map shown_of sources)
 
 -- the first lines are on their way, and all items are left
-pub going_heads : (first now : List SourceView) (before written : Option (List ℕ)) (waiting waiting_now : List ℕ) → All IsFreshSource first → All (λ source. IsSome source.told) first → waiting ≡ []
+pub going_heads : (first now : List SourceView) (before written : Option (List ℕ)) (waiting waiting_now : List ℕ) → All HasOwnLayouts first → All IsFreshSource first → All (λ source. IsSome source.told) first → waiting ≡ []
     → length now ≡ length first → Tied Keeps first now
     → ((b : Option (List ℕ)) (text : List ℕ) → Holds b before waiting text → Holds b written waiting_now (text ++ text_of (heads_of first)))
     → Going before (whole_of first) written waiting_now (lines_left now)
-going_heads first now before written waiting waiting_now fresh told empty long tied puts =
+going_heads first now before written waiting waiting_now layouts fresh told empty long tied puts =
     let all_shown : map shown_of now ≡ map shown_of first = same_shown first now (keeps_same first now long tied) in
-    let left : to_come_of now ≡ reached (map shown_of first) = left_keeps first now long tied (all_fresh_known first fresh told) ∙ fresh_left first fresh in
+    let left : to_come_of now ≡ reached (map shown_of first) = left_keeps first now long tied (all_fresh_known first layouts fresh told) ∙ fresh_left first layouts fresh in
     let rest : lines_left now ≡ lines (map shown_of first) (reached (map shown_of first)) = ap (λ (gs : List ShownFile). lines gs (to_come_of now)) all_shown ∙ ap (lines (map shown_of first)) left in
     record {
       done = heads_of first;
@@ -47,23 +47,23 @@ heads_stopped first before written waiting empty puts =
     prefix_of_whole before written (whole_of first) (heads_of first) (lines (map shown_of first) (reached (map shown_of first))) refl
     (puts before [] (subst (λ (w : List ℕ). Holds before before w []) (sym empty) (holds_nothing before)))
 
-pub underway_first : (first now : List SourceView) (keys : List SlotKey) (before written : Option (List ℕ)) (waiting waiting_now : List ℕ) → All IsFreshSource first → All (λ source. IsSome source.told) first → waiting ≡ []
+pub underway_first : (first now : List SourceView) (keys : List SlotKey) (before written : Option (List ℕ)) (waiting waiting_now : List ℕ) → All HasOwnLayouts first → All IsFreshSource first → All (λ source. IsSome source.told) first → waiting ≡ []
     → length now ≡ length first → Tied Keeps first now → (All IsKnown now → keys ≡ map next_key now)
     → ((b : Option (List ℕ)) (text : List ℕ) → Holds b before waiting text → Holds b written waiting_now (text ++ text_of (heads_of first)))
     → IsUnderway before (whole_of first) (state_of now keys written waiting_now)
-underway_first first now keys before written waiting waiting_now fresh told empty long tied keys_are puts =
-    let known = known_all first now long tied (all_fresh_known first fresh told) in
-    record { known = known; keys_are = keys_are known; going = going_heads first now before written waiting waiting_now fresh told empty long tied puts }
+underway_first first now keys before written waiting waiting_now layouts fresh told empty long tied keys_are puts =
+    let known = known_all first now long tied (all_fresh_known first layouts fresh told) in
+    record { known = known; keys_are = keys_are known; going = going_heads first now before written waiting waiting_now layouts fresh told empty long tied puts }
 
 -- a read failed before the first item
-pub read_first : (first now : List SourceView) (before written new : Option (List ℕ)) (waiting waiting_now : List ℕ) (source : ℕ) (result : FilesEnd) → All IsFreshSource first → All (λ source. IsSome source.told) first → waiting ≡ []
+pub read_first : (first now : List SourceView) (before written new : Option (List ℕ)) (waiting waiting_now : List ℕ) (source : ℕ) (result : FilesEnd) → All HasOwnLayouts first → All IsFreshSource first → All (λ source. IsSome source.told) first → waiting ≡ []
     → length now ≡ length first → Tied Keeps first now
     → ((b : Option (List ℕ)) (text : List ℕ) → Holds b before waiting text → Holds b written waiting_now (text ++ text_of (heads_of first)))
     → ((b : Option (List ℕ)) (text : List ℕ) → Holds b written waiting_now text → EndsWith b new text (code.Read source) result)
     → IsEnded (whole_of first) (cut_of_files (map shown_of now)) before new result
-read_first first now before written new waiting waiting_now source result fresh told empty long tied puts ends =
+read_first first now before written new waiting waiting_now source result layouts fresh told empty long tied puts ends =
     end_read before (whole_of first) (cut_of_files (map shown_of now)) written new waiting_now (lines_left now) source result ends
-    (going_heads first now before written waiting waiting_now fresh told empty long tied puts)
+    (going_heads first now before written waiting waiting_now layouts fresh told empty long tied puts)
 
 -- a count that rose since a turn began rose since the report began
 pub read_from : (result : FilesEnd) (first before now : List SourceView) → AreSame first before → ReadRose result before now → ReadRose result first now

@@ -15,10 +15,11 @@ use Rattle.event_cursor.specs.Keys.{first_of}
 use Rattle.event_cursor.specs.Standing.{Stands, keyed_held}
 use Rattle.event_cursor.proofs.Standing.{stands_stepped}
 use Rattle.time_merge.specs.LaneNexts.{cut_at}
-use Rattle.time_merge.specs.LaneRows.{parts_of, to_come}
+use Rattle.time_merge.specs.LaneRows.{HasLayout, parts_of, to_come}
 use Rattle.time_merge.specs.Rows.{coming, least_cut}
 use Rattle.time_merge.specs.Nexts.{IsNextLane}
 use Rattle.time_merge.proofs.Going.{still_parts}
+use Rattle.time_merge.proofs.LanesKept.{layouts_set}
 use Rattle.time_merge.proofs.Starting.{cut_of_rows as one_cut}
 use Rattle.tournament_tree.specs.declared.slot_key.SlotKey.{SlotKey}
 use Rattle.multi_report.specs.declared.taking.Taken.{Taken}
@@ -40,17 +41,19 @@ known_stepped a b i e lt s known =
     let bytes : bytes_of b ≡ bytes_of a = ap (λ (o : Option (List ℕ)). unwrap_or o []) s.told in
     record {
       told = subst IsSome (sym s.told) known.told;
+      layouts =
+          let here : All (HasLayout a.layout) b.lanes = layouts_set a.lanes i s.lane b.lanes s.lanes lt a.layout (s.stepped s.lane).page.layout known.layouts in
+          subst (λ (l : Layout). All (HasLayout l) b.lanes) (sym s.layout) here;
       stands =
-          let all : All (Stands a.layout (bytes_of a)) (set a.lanes i s.lane) =
-          All-set (Stands a.layout (bytes_of a)) a.lanes i s.lane (stands_stepped a.layout (bytes_of a) (get_or a.lanes i e) s.lane (s.stepped e) (All-get_or (Stands a.layout (bytes_of a)) a.lanes i e lt known.stands)) known.stands in
-          let here : All (Stands a.layout (bytes_of a)) b.lanes = subst (All (Stands a.layout (bytes_of a))) (sym s.lanes) all in
-          let there : All (Stands a.layout (bytes_of b)) b.lanes = subst (λ (bs : List ℕ). All (Stands a.layout bs) b.lanes) (sym bytes) here in
-          subst (λ (l : Layout). All (Stands l (bytes_of b)) b.lanes) (sym s.layout) there;
+          let all : All (Stands (bytes_of a)) (set a.lanes i s.lane) =
+          All-set (Stands (bytes_of a)) a.lanes i s.lane (stands_stepped (bytes_of a) (get_or a.lanes i e) s.lane (s.stepped e) (All-get_or (Stands (bytes_of a)) a.lanes i e lt known.stands)) known.stands in
+          let here : All (Stands (bytes_of a)) b.lanes = subst (All (Stands (bytes_of a))) (sym s.lanes) all in
+          subst (λ (bs : List ℕ). All (Stands bs) b.lanes) (sym bytes) here;
     }
 
 shown_stepped : (a b : SourceView) (i : ℕ) (e : Lane) → i < length a.lanes → IsLaneStepped a i b → shown_of b ≡ shown_of a
 shown_stepped a b i e lt s =
-    let parts : parts_of b.lanes ≡ parts_of a.lanes = ap parts_of s.lanes ∙ still_parts a.layout a.lanes i e s.lane lt (s.stepped e) in
+    let parts : parts_of b.lanes ≡ parts_of a.lanes = ap parts_of s.lanes ∙ still_parts a.lanes i e s.lane lt (s.stepped e) in
     cc (s.name, s.cpus, s.layout, s.text, s.told, parts)
 
 pub same_stepped : (a b : SourceView) (i : ℕ) → i < length a.lanes → IsLaneStepped a i b → IsSame a b
@@ -87,31 +90,30 @@ pub rose_used : (a b c : SourceView) (i : ℕ) → IsLaneStepped a i b → Rose 
 rose_used a b c i s rose = omega (arith, s.faults, rose)
 
 abbrev put_of : SourceView → ℕ → Lane → List ℕ
-put_of a i d = unwrap_or (option_map (line_of (shown_of a)) (first_of (keyed_held a.layout (get_or a.lanes i d)))) []
+put_of a i d = unwrap_or (option_map (line_of (shown_of a)) (first_of (keyed_held (get_or a.lanes i d)))) []
 
-line_put : (a : SourceView) (i : ℕ) (d : Lane) (next : IsNextLane a.layout (bytes_of a) a.lanes i) → put_of a i d ≡ line_of (shown_of a) next.item
+line_put : (a : SourceView) (i : ℕ) (d : Lane) (next : IsNextLane (bytes_of a) a.lanes i) → put_of a i d ≡ line_of (shown_of a) next.item
 line_put a i d next = ap (λ (o : Option Keyed). unwrap_or (option_map (line_of (shown_of a)) o) []) (next.first d)
 
-pub item_taken : {T E : Type 0} (v : T) (a b c : SourceView) (i : ℕ) (way way_now : OnWay) → i < length a.lanes → IsNextLane a.layout (bytes_of a) a.lanes i → IsLaneStepped a i b → Keeps b c → IsKnown a
+pub item_taken : {T E : Type 0} (v : T) (a b c : SourceView) (i : ℕ) (way way_now : OnWay) → i < length a.lanes → IsNextLane (bytes_of a) a.lanes i → IsLaneStepped a i b → Keeps b c → IsKnown a
     → ((d : Lane) → PutsText {T = T} {E = E} (put_of a i d) way way_now (Ok v)) → ItemTaken a c way way_now
 item_taken v a b c i way way_now lt next s keeps known puts =
     let e = some_lane a.lanes i lt in
     let known_b : IsKnown b = known_stepped a b i e lt s known in
     let bytes : bytes_of b ≡ bytes_of a = ap (λ (o : Option (List ℕ)). unwrap_or o []) s.told in
-    let same : to_come b.layout (bytes_of b) b.lanes ≡ to_come a.layout (bytes_of a) (set a.lanes i s.lane) =
-    ap (λ (l : Layout). to_come l (bytes_of b) b.lanes) s.layout
-    ∙ ap (λ (bs : List ℕ). to_come a.layout bs b.lanes) bytes ∙ ap (to_come a.layout (bytes_of a)) s.lanes in
+    let same : to_come (bytes_of b) b.lanes ≡ to_come (bytes_of a) (set a.lanes i s.lane) =
+    ap (λ (bs : List ℕ). to_come bs b.lanes) bytes ∙ ap (to_come (bytes_of a)) s.lanes in
     let kept : left_in c ≡ left_in b = ap (coming key_of cpu_of) (keeps.rows known_b) in
     record {
       item = next.item;
       come = next.used e s.lane (s.stepped e) ∙ ap (λ (xs : List Keyed). next.item ∷ xs) (sym same ∙ sym kept);
       cut = ap least_cut (keeps.rows known_b)
-          ∙ one_cut b.layout (bytes_of b) b.lanes ∙ ap (λ (g : ShownFile). own_cut g) (shown_stepped a b i e lt s) ∙ sym (one_cut a.layout (bytes_of a) a.lanes);
+          ∙ one_cut b.layout (bytes_of b) b.lanes known_b.layouts ∙ ap (λ (g : ShownFile). own_cut g) (shown_stepped a b i e lt s) ∙ sym (one_cut a.layout (bytes_of a) a.lanes known.layouts);
       known = keeps.known known_b;
       puts = λ first text held. subst (λ (p : List ℕ). Holds first way_now.written way_now.waiting (text ++ p)) (line_put a i e next) ((puts e).puts first text held);
     }
 
-pub line_stopped : {T E : Type 0} (v : E) (a : SourceView) (i : ℕ) (way way_now : OnWay) → i < length a.lanes → IsNextLane a.layout (bytes_of a) a.lanes i
+pub line_stopped : {T E : Type 0} (v : E) (a : SourceView) (i : ℕ) (way way_now : OnWay) → i < length a.lanes → IsNextLane (bytes_of a) a.lanes i
     → ((d : Lane) → PutsText {T = T} {E = E} (put_of a i d) way way_now (Err v)) → LineStopped a way way_now
 line_stopped v a i way way_now lt next puts =
     let e = some_lane a.lanes i lt in
@@ -138,7 +140,7 @@ cut_told a way i lanes d e same lt h = (
     made key cpu page = record { key = key; cpu = cpu; page = page }
 
 -- how a file is left by what was taken of it
-module _ {T E : Type 0} (a b c : SourceView) (i : ℕ) (way way_now : OnWay) (lt : i < length a.lanes) (next : IsKnown a → IsNextLane a.layout (bytes_of a) a.lanes i) where
+module _ {T E : Type 0} (a b c : SourceView) (i : ℕ) (way way_now : OnWay) (lt : i < length a.lanes) (next : IsKnown a → IsNextLane (bytes_of a) a.lanes i) where
   pub taken_item : (v : T) (key : SlotKey) → IsLaneStepped a i b → Keeps b c → IsReadied b c → (IsKnown c → key ≡ next_key c)
       → ((d : Lane) → PutsText {T = T} {E = E} (put_of a i d) way way_now (Ok v)) → TakenOf a way (took.Item key) c way_now
   taken_item v key s keeps readied key_is puts = record {

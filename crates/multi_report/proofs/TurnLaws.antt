@@ -30,6 +30,7 @@ use Rattle.multi_report.specs.Reports.{AreSame, IsEnded, ReadRose, WriteRose, li
 use Rattle.multi_report.specs.Taking.{ItemTaken, TakenFrom}
 use Rattle.multi_report.specs.Turns.{AreReadied, EndsWith, Going, IsTold, IsUnderway, lines_left, state_of}
 use Rattle.multi_report.proofs.FileRows.{file_next, file_cut, file_first, file_none, file_some}
+use Rattle.multi_report.proofs.OwnLayouts.{known_own}
 use Rattle.multi_report.proofs.Files.{no_cut, one_cut_is, same_one}
 use Rattle.multi_report.proofs.Going.{end_read, end_whole, line_at, put_one, put_stopped}
 
@@ -71,7 +72,7 @@ pub turn_done : (before : Option (List ℕ)) (whole : List (List ℕ)) (sources 
     → IsUnderway before whole (state_of sources keys old waiting) → IsEnded whole (cut_of_files (map shown_of sources)) before new result
 turn_done before whole sources keys old new waiting result none ends under =
     let law = file_none sources (subst (λ (ks : List SlotKey). IsLeastAt ks None) under.keys_are none) in
-    end_whole before whole (cut_of_files (map shown_of sources)) old new waiting (lines_left sources) code.Done result ends under.going (none_left sources law.0) (λ gained. (gained, no_cut sources law.1))
+    end_whole before whole (cut_of_files (map shown_of sources)) old new waiting (lines_left sources) code.Done result ends under.going (none_left sources law.0) (λ gained. (gained, no_cut sources (known_own sources under.known) law.1))
 
 -- One of several files changed, and the others are as they were.
 module _ (sources : List SourceView) (j : ℕ) (lt : j < length sources) (way way_now : OnWay) where
@@ -187,7 +188,7 @@ module _ (before : Option (List ℕ)) (whole : List (List ℕ)) (sources : List 
       let t = is.taken (one_known under) in
       let cut : Cut = cut_at t.1.0 place in
       let law = file_cut sources j here d cut lt (least_here here least under) t.0.none t.1.1 in
-      let found : cut_of_files (map shown_of sources) ≡ Some (cut_in j cut) = one_cut_is sources j d cut lt law.1 t.1.1 in
+      let found : cut_of_files (map shown_of sources) ≡ Some (cut_in j cut) = one_cut_is sources j d cut (known_own sources under.known) lt law.1 t.1.1 in
       let all_shown : map shown_of now ≡ map shown_of sources = ap (map shown_of) from.set ∙ same_givens from.one is.same.shown in
       subst (λ (gs : List ShownFile). IsEnded whole (cut_of_files gs) before new result) (sym all_shown)
       (end_whole before whole (cut_of_files (map shown_of sources)) way_now.written new way_now.waiting (lines_left sources) (code.Malformed j place) result ends

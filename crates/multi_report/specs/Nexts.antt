@@ -8,7 +8,7 @@ use Rattle.multi_report.specs.Sources.{SourceView, unread_of, work}
 pub record IsLaneStepped (before : SourceView) (i : ℕ) (now : SourceView) : Type 0 where
   pub lane : Lane
   pub lanes : now.lanes ≡ slice_set before.lanes i lane
-  pub stepped : (d : Lane) → IsStepped before.layout (slice_index_or before.lanes i d) lane
+  pub stepped : (d : Lane) → IsStepped (slice_index_or before.lanes i d) lane
   pub name : now.name ≡ before.name
   pub cpus : now.cpus ≡ before.cpus
   pub layout : now.layout ≡ before.layout

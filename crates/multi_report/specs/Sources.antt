@@ -13,7 +13,7 @@ use Rattle.page_pool.specs.declared.lane.Lane.{Lane}
 use Rattle.page_pool.specs.Fresh.{IsFresh}
 use Rattle.event_cursor.specs.Standing.{Stands, most_left}
 use Rattle.time_merge.specs.Rows.{Row, bound_of, coming, least_cut}
-use Rattle.time_merge.specs.LaneRows.{parts_of, rows_of, to_come}
+use Rattle.time_merge.specs.LaneRows.{HasLayout, parts_of, rows_of, to_come}
 use Rattle.time_merge.specs.Reads.{all_unread}
 use Rattle.time_merge.specs.declared.readiness.Readiness.{Readiness}
 use Rattle.time_merge.specs.declared.readiness.Readiness.TheVariants.{Ready}
@@ -60,10 +60,15 @@ HasRoom room source = (cpu : ℕ) (item : ItemData) → length (source.text cpu 
 abbrev pub bytes_of : SourceView → List ℕ
 bytes_of source = unwrap_or source.told []
 
--- it tells its bytes, and its lanes stand where they should
+-- its lanes have its layout
+abbrev pub HasOwnLayouts : SourceView → Type 0
+HasOwnLayouts source = All (HasLayout source.layout) source.lanes
+
+-- it tells its bytes, and its lanes have its layout and stand where they should
 pub record IsKnown (source : SourceView) : Type 0 where
   pub told : IsSome source.told
-  pub stands : All (Stands source.layout (bytes_of source)) source.lanes
+  pub layouts : HasOwnLayouts source
+  pub stands : All (Stands (bytes_of source)) source.lanes
 
 -- what is shown of its file
 abbrev pub shown_of : SourceView → ShownFile
@@ -78,7 +83,7 @@ shown_of source = record {
 
 -- the bytes that were not read of the parts of a source's lanes
 abbrev pub unread_of : SourceView → ℕ
-unread_of source = all_unread source.layout source.size source.lanes
+unread_of source = all_unread source.size source.lanes
 
 -- its count of bytes once all of these are read
 abbrev pub due : SourceView → ℕ
@@ -98,11 +103,11 @@ ReadsItsParts before now = now.reads ≤ raised before.reads (sum_by (λ part. p
 
 -- the items that a file has left
 abbrev pub left_in : SourceView → List Keyed
-left_in source = to_come source.layout (bytes_of source) source.lanes
+left_in source = to_come (bytes_of source) source.lanes
 
 -- and the cut that ends them, if there is one
 abbrev pub cut_left : SourceView → Option Cut
-cut_left source = least_cut (rows_of source.layout (bytes_of source) source.lanes)
+cut_left source = least_cut (rows_of (bytes_of source) source.lanes)
 
 -- both as a row
 abbrev pub left_row : ℕ × SourceView → Row FileItem
@@ -118,7 +123,7 @@ to_come_of sources = coming key_in file_in (map left_row (numbered sources))
 
 -- no more items than this are left, whatever the file
 abbrev pub work : SourceView → ℕ
-work source = sum_by (most_left source.layout) source.lanes
+work source = sum_by most_left source.lanes
 
 -- all its lanes are ready
 abbrev pub IsPrepared : SourceView → Type 0
@@ -129,7 +134,7 @@ pub record Keeps (before now : SourceView) : Type 0 where
   pub same : IsSame before now
   pub most : work now ≤ work before
   pub rows : IsKnown before
-      → rows_of now.layout (bytes_of now) now.lanes ≡ rows_of before.layout (bytes_of before) before.lanes
+      → rows_of (bytes_of now) now.lanes ≡ rows_of (bytes_of before) before.lanes
   pub known : IsKnown before → IsKnown now
 
 -- Its lanes are ready, and what was read of it is not to be read again.

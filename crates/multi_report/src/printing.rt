@@ -157,7 +157,7 @@ pub(crate) fn put_item<F: File, L: LineFormat, O: Sink>(
     ensures cause { HasCause (O.faults out.old) (O.faults out.new) result }
     ensures keeps_out { KeepsSink O.Sink out.old out.new }
     ensures puts { (d : Lane) → PutsText (unwrap_or (option_map (line_of (shown_of (seen F.File L.text source.now)))
-        (first_of (keyed_held source.now.lanes.layout (slice_index_or source.now.lanes.all i d)))) [])
+        (first_of (keyed_held (slice_index_or source.now.lanes.all i d)))) [])
         (on_way O.written O.name O.faults out.old pending.old)
         (on_way O.written O.name O.faults out.new pending.new) result }
 {

@@ -7,7 +7,7 @@ ghost use Rattle.multi_report.specs.Turns.{AreReadied, EndsWith, IsTold, IsTurne
 
 use crate::printing::put_heads;
 use crate::source::Source;
-use crate::sources::make_sources_ready;
+use crate::sources::{know_layouts, make_sources_ready};
 use crate::taking::{Taken, take_from};
 use line_holes::LineFormat;
 use subpage::CutPlace;
@@ -63,6 +63,7 @@ fn begin<F: File, L: LineFormat, O: Sink>(
     ensures write { IfSome result (λ end. WriteRose end (O.faults out.old) (O.faults out.new)) }
     ensures keeps_out { KeepsSink O.Sink out.old out.new }
 {
+    know_layouts(sources);
     match put_heads(sources, pending, out) {
         Ok(()) => match make_sources_ready(sources, nexts) {
             None => None,

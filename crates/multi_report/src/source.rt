@@ -60,7 +60,7 @@ pub(crate) fn use_item<F: File, L: LineFormat>(source: &mut Source<'_, F, L>, i:
     requires prepared { IsPrepared (seen F.File L.text source.old) }
     requires inside { i < length source.old.lanes.all }
     requires held { (d : Lane) → ((slice_index_or source.old.lanes.all i d).cursor.state ≡ state.Held)
-        × (0 < length (held_left source.old.lanes.layout (slice_index_or source.old.lanes.all i d))) }
+        × (0 < length (held_left (slice_index_or source.old.lanes.all i d))) }
     ensures { IsLaneStepped (seen F.File L.text source.old) i (seen F.File L.text source.new) }
 {
     source.lanes.step(i)

@@ -1,12 +1,21 @@
 ghost use Rattle.std.specs.Prelude.{◌≡◌, ◌<◌, All, length, map, IfSome, IfNone, slice_index_or};
 ghost use Rattle.trace_outside.specs.Causes.{Rose};
-ghost use Rattle.multi_report.specs.Sources.{AllKeep, IsKnown, SourceView, next_key, seen};
+ghost use Rattle.multi_report.specs.Sources.{AllKeep, HasOwnLayouts, IsKnown, SourceView, next_key, seen};
 ghost use Rattle.multi_report.specs.Turns.{AreReadied};
 
 use crate::source::{Source, make_source_ready};
 use line_holes::LineFormat;
 use tournament_tree::TournamentTree;
 use trace_outside::{Failed, File};
+
+/// The lanes of each file have its layout: that is so by their type, and a look at them tells it.
+pub(crate) fn know_layouts<F: File, L: LineFormat>(sources: &[Source<'_, F, L>])
+    ensures { All HasOwnLayouts (map (seen F.File L.text) sources.now) }
+{
+    for j in 0..sources.len() {
+        let _ = sources[j].lanes.all();
+    }
+}
 
 /// Makes all lanes of all files ready, and gives a tree the key of what comes next of each file. Some: a read of that file
 /// failed.

@@ -18,6 +18,7 @@ Unless false fact = fact
 -- The lane is still its processor's, and has all that may not change.
 pub record KeepsLane (may : MayChange) (before now : Lane) : Type 0 where
   pub cpu : now.cpu ≡ before.cpu
+  pub layout : now.layout ≡ before.layout
   pub part : now.part ≡ before.part
   pub region : Unless may.region (now.region ≡ before.region)
   pub page : Unless may.page (now.page ≡ before.page)

@@ -8,6 +8,7 @@ use Rattle.std.proofs.lemmas.List.Elements.{All-head, All-tail}
 use Rattle.std.proofs.lemmas.Bool.{and_from, and_parts, cases_Bool, cases_lt, cond-true, le-leb}
 use Rattle.std.proofs.lemmas.List.{length-drop}
 use Rattle.std.proofs.lemmas.List.Sums.{length-filter, sum_by-cons}
+use Rattle.trace_base.proofs.Layouts.{carried}
 use Rattle.trace_base.specs.declared.layout.Layout.{Layout}
 use Rattle.trace_base.specs.declared.part.Part.{Part}
 use Rattle.subpage.specs.ItemData.{ItemData}
@@ -18,11 +19,11 @@ use Rattle.page_pool.specs.Lines.{most_lines}
 use Rattle.page_pool.specs.declared.cursor.LaneState.{LaneState}
 use Rattle.page_pool.specs.declared.cursor.LaneState.TheVariants.{Fresh, Held, Ended, Malformed}
 use Rattle.page_pool.specs.declared.lane.Lane.{Lane}
-use Rattle.event_cursor.specs.Standing.{IsInOrder, Stands, left_of}
+use Rattle.event_cursor.specs.Standing.{Stands, left_of}
 use Rattle.event_cursor.specs.Unread.{first_unread, is_there_in, reading, reading_in, size_from, size_there, unread}
 use Rattle.event_cursor.proofs.UnreadLaws.{size_step}
 use Rattle.event_cursor.proofs.UsedItems.{held_counts}
-use Rattle.time_merge.specs.LaneRows.{parts_of}
+use Rattle.time_merge.specs.LaneRows.{HasLayout, parts_of}
 use Rattle.time_merge.specs.Reads.{all_reading, all_unread}
 use Rattle.round_print.specs.Prints.{CpuLine}
 use Rattle.report_rounds.specs.Due.{due_count, has_line, is_page_due, is_of, items_before, none_before, unwritten_before}
@@ -30,11 +31,11 @@ use Rattle.report_rounds.proofs.Before.{asked_in, before_left, sound_to}
 use Rattle.report_rounds.proofs.LineCounts.{count_cons, one_if}
 use Rattle.time_merge.proofs.PartReads.{size_inside, size_none, there_inside}
 
-module _ (text : ℕ → ItemData → LineText) (l : Layout) (file : List ℕ) (written : List CpuLine) (a : Lane) where
+module _ (text : ℕ → ItemData → LineText) (file : List ℕ) (written : List CpuLine) (a : Lane) where
   -- all lines of a lane's used items are kept or among these pieces
   abbrev pub HasWritten : Type 0
-  HasWritten = count_by (has_line text a.cpu) (list_of l file a.part)
-      ≤ count_by (is_of a.cpu) written + (length a.region.kept + count_by (has_line text a.cpu) (left_of l file a))
+  HasWritten = count_by (has_line text a.cpu) (list_of a.layout file a.part)
+      ≤ count_by (is_of a.cpu) written + (length a.region.kept + count_by (has_line text a.cpu) (left_of file a))
 
   sound_before : (bad : Option ℕ) (next k : ℕ) → IfSome bad (λ at. next ≤ at) → k ≤ next → none_before bad k ≡ true
   sound_before None next k sound le = refl
@@ -46,26 +47,26 @@ module _ (text : ℕ → ItemData → LineText) (l : Layout) (file : List ℕ) (
   no_later Ended next k lt = omega (arith, lt)
   no_later Malformed next k lt = omega (arith, lt)
 
-  module _ (some : 0 < l.page) (order : IsInOrder l a) (s : Stands l file a) (few : length a.region.kept ≤ most_lines) (has : HasWritten) where
-    few_unwritten : (k : ℕ) → k < page_count l a.part → k < asked_in a.cursor.state a.cursor.next → length (unwritten_before text l file written (a.cpu, a.part) k) ≤ most_lines
+  module _ (s : Stands file a) (few : length a.region.kept ≤ most_lines) (has : HasWritten) where
+    few_unwritten : (k : ℕ) → k < page_count a.layout a.part → k < asked_in a.cursor.state a.cursor.next → length (unwritten_before text a.layout file written (a.cpu, a.part) k) ≤ most_lines
     few_unwritten k inside lt =
         let p : ItemData → Bool = has_line text a.cpu in
         let done : ℕ = count_by (is_of a.cpu) written in
         omega (
           arith,
-          length-drop done (filter p (items_before l file a.part k)),
-          length-filter p (items_before l file a.part k),
-          before_left l file p a some order s k inside lt,
+          length-drop done (filter p (items_before a.layout file a.part k)),
+          length-filter p (items_before a.layout file a.part k),
+          before_left file p a s k inside lt,
           few,
           has,
         )
 
-    pub asked_due : (k : ℕ) → k < asked_in a.cursor.state a.cursor.next → is_there l file a.part k ≡ true → is_page_due text l file written (a.cpu, a.part) k ≡ true
+    pub asked_due : (k : ℕ) → k < asked_in a.cursor.state a.cursor.next → is_there a.layout file a.part k ≡ true → is_page_due text a.layout file written (a.cpu, a.part) k ≡ true
     asked_due k lt there =
-        let inside : k < page_count l a.part = held_counts a.part.size l.page k some (there_inside l (length file) a.part k there) in
-        let sound : none_before (bad_of l file a.part) k ≡ true = sound_before (bad_of l file a.part) a.cursor.next k (sound_to l file a s) (no_later a.cursor.state a.cursor.next k lt) in
-        let small : nat_le (length (unwritten_before text l file written (a.cpu, a.part) k)) most_lines ≡ true = le-leb _ _ (few_unwritten k inside lt) in
-        and_from _ _ (and_from (is_there l file a.part k) (none_before (bad_of l file a.part) k) there sound) small
+        let inside : k < page_count a.layout a.part = held_counts a.part.size a.layout.page k (omega (arith, (carried a.layout).page_least)) (there_inside a.layout (length file) a.part k there) in
+        let sound : none_before (bad_of a.layout file a.part) k ≡ true = sound_before (bad_of a.layout file a.part) a.cursor.next k (sound_to file a s) (no_later a.cursor.state a.cursor.next k lt) in
+        let small : nat_le (length (unwritten_before text a.layout file written (a.cpu, a.part) k)) most_lines ≡ true = le-leb _ _ (few_unwritten k inside lt) in
+        and_from _ _ (and_from (is_there a.layout file a.part k) (none_before (bad_of a.layout file a.part) k) there sound) small
 
 -- the bytes of a part's sub-buffers before one that was not asked for
 module _ (l : Layout) (len : ℕ) (some : 0 < l.page) where
@@ -142,14 +143,10 @@ module _ (l : Layout) (len : ℕ) (some : 0 < l.page) where
 
   -- a lane that asked for due sub-buffers only
   abbrev pub AsksDue : (ℕ × Part → ℕ) → Lane → Type 0
-  AsksDue count a = size_from l len a.part 0 + reading l len a ≤ l.page * count (a.cpu, a.part) + unread l len a
-
-  pub asks_due : (a : Lane) (due : ℕ → Bool) → ((k : ℕ) → k < asked_in a.cursor.state a.cursor.next → is_there_in l len a.part k ≡ true → due k ≡ true)
-      → size_from l len a.part 0 + reading l len a ≤ l.page * count_by due (range_with_len 0 (page_count l a.part)) + unread l len a
-  asks_due a due each = omega (arith, all_due a.part due (asked_in a.cursor.state a.cursor.next) each, asked_unread a.cursor.state a.part a.cursor.next)
+  AsksDue count a = size_from l len a.part 0 + reading len a ≤ l.page * count (a.cpu, a.part) + unread len a
 
   pub lanes_due : (count : ℕ × Part → ℕ) (lanes : List Lane) → All (AsksDue count) lanes
-      → sum_by (λ part. size_from l len part.1 0) (parts_of lanes) + all_reading l len lanes ≤ l.page * sum_by count (parts_of lanes) + all_unread l len lanes
+      → sum_by (λ part. size_from l len part.1 0) (parts_of lanes) + all_reading len lanes ≤ l.page * sum_by count (parts_of lanes) + all_unread len lanes
   lanes_due count [] all = omega arith
   lanes_due count (a ∷ lanes) all =
       let part : ℕ × Part = (a.cpu, a.part) in
@@ -160,23 +157,31 @@ module _ (l : Layout) (len : ℕ) (some : 0 < l.page) where
         All-head (AsksDue count) a lanes all,
         lanes_due count lanes (All-tail (AsksDue count) a lanes all),
         sum_by-cons (λ (q : ℕ × Part). size_from l len q.1 0) part (parts_of lanes),
-        sum_by-cons (reading l len) a lanes,
-        sum_by-cons (unread l len) a lanes,
+        sum_by-cons (reading len) a lanes,
+        sum_by-cons (unread len) a lanes,
       )
 
-  fresh_unread : (a : Lane) → IsFresh a.cursor → unread l len a ≡ size_from l len a.part 0
-  fresh_unread a f = ap (λ (s : LaneState). size_from l len a.part (first_unread s a.cursor.next)) f.state ∙ ap (size_from l len a.part) f.next
+  fresh_unread : (a : Lane) → HasLayout l a → IsFresh a.cursor → unread len a ≡ size_from l len a.part 0
+  fresh_unread a layout f =
+      ap (λ (s : LaneState). size_from a.layout len a.part (first_unread s a.cursor.next)) f.state ∙ ap (size_from a.layout len a.part) f.next
+      ∙ ap (λ (k : Layout). size_from k len a.part 0) layout
 
-  pub fresh_all : (lanes : List Lane) → All (λ a. IsFresh a.cursor) lanes → all_unread l len lanes ≡ sum_by (λ part. size_from l len part.1 0) (parts_of lanes)
-  fresh_all [] fresh = refl
-  fresh_all (a ∷ lanes) fresh =
+  pub fresh_all : (lanes : List Lane) → All (HasLayout l) lanes → All (λ a. IsFresh a.cursor) lanes → all_unread len lanes ≡ sum_by (λ part. size_from l len part.1 0) (parts_of lanes)
+  fresh_all [] layouts fresh = refl
+  fresh_all (a ∷ lanes) layouts fresh =
       omega (
         arith,
-        fresh_unread a (All-head (λ b. IsFresh b.cursor) a lanes fresh),
-        fresh_all lanes (All-tail (λ b. IsFresh b.cursor) a lanes fresh),
-        sum_by-cons (unread l len) a lanes,
+        fresh_unread a (All-head (HasLayout l) a lanes layouts) (All-head (λ b. IsFresh b.cursor) a lanes fresh),
+        fresh_all lanes (All-tail (HasLayout l) a lanes layouts) (All-tail (λ b. IsFresh b.cursor) a lanes fresh),
+        sum_by-cons (unread len) a lanes,
         sum_by-cons (λ (q : ℕ × Part). size_from l len q.1 0) (a.cpu, a.part) (parts_of lanes),
       )
+
+-- a lane that asked for due sub-buffers only
+pub asks_due : (len : ℕ) (a : Lane) (some : 0 < a.layout.page) (due : ℕ → Bool) → ((k : ℕ) → k < asked_in a.cursor.state a.cursor.next → is_there_in a.layout len a.part k ≡ true → due k ≡ true)
+    → size_from a.layout len a.part 0 + reading len a ≤ a.layout.page * count_by due (range_with_len 0 (page_count a.layout a.part)) + unread len a
+asks_due len a some due each =
+    omega (arith, all_due a.layout len some a.part due (asked_in a.cursor.state a.cursor.next) each, asked_unread a.layout len some a.cursor.state a.part a.cursor.next)
 
 -- of each processor no more is due than its part has
 pub parts_due : (text : ℕ → ItemData → LineText) (l : Layout) (file : List ℕ) (written : List CpuLine) (parts : List (ℕ × Part)) → 0 < l.page

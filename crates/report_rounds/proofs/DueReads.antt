@@ -1,5 +1,5 @@
 -- Whatever ends the rounds, no more was read than is due by what was written.
-use Rattle.std.proofs.Common.{◌≡◌, ℕ, zero, suc, ◌-◌, ◌*◌, ◌<◌, ◌≤◌, Bool, true, false, List, [], ◌∷◌, ◌++◌, length, take, get_or, sum_by, Option, Some, None, refl, sym, ap, subst, ◌∙◌, arith, inl, inr}
+use Rattle.std.proofs.Common.{◌+◌, ◌≡◌, ℕ, zero, suc, ◌-◌, ◌*◌, ◌<◌, ◌≤◌, Bool, true, false, List, [], ◌∷◌, ◌++◌, length, take, get_or, sum_by, Option, Some, None, refl, sym, ap, subst, ◌∙◌, arith, inl, inr}
 use Rattle.std.specs.Prelude.{count_by, nat_eq}
 use Rattle.std.specs.List.{All, starts_with}
 use Rattle.std.specs.Option.{IfSome}
@@ -8,6 +8,7 @@ use Rattle.std.proofs.lemmas.Bool.{cases_Bool, cases_eq}
 use Rattle.std.proofs.lemmas.Cmp.{nat_list_eq_equiv}
 use Rattle.std.proofs.lemmas.List.{take-take, take_at}
 use Rattle.std.proofs.lemmas.List.Sums.{sum_by-take-le}
+use Rattle.trace_base.proofs.Layouts.{carried}
 use Rattle.trace_base.specs.declared.layout.Layout.{Layout}
 use Rattle.trace_base.specs.declared.part.Part.{Part}
 use Rattle.trace_outside.specs.Causes.{raised}
@@ -20,10 +21,11 @@ use Rattle.line_holes.specs.Holes.{LineText}
 use Rattle.page_pool.specs.Fresh.{IsFresh}
 use Rattle.page_pool.specs.Lines.{Line, Lines, most_lines}
 use Rattle.page_pool.specs.declared.lane.Lane.{Lane}
+use Rattle.page_pool.proofs.Keeping.{by_both}
 use Rattle.event_cursor.specs.Standing.{Stands, left_of}
-use Rattle.event_cursor.specs.Unread.{is_there_in, size_from}
+use Rattle.event_cursor.specs.Unread.{is_there_in, reading, size_from, unread}
 use Rattle.event_cursor.specs.Loading.{IsReadied}
-use Rattle.time_merge.specs.LaneRows.{parts_of}
+use Rattle.time_merge.specs.LaneRows.{HasLayout, parts_of}
 use Rattle.time_merge.specs.Reads.{all_unread}
 use Rattle.time_merge.specs.Rows.{Row}
 use Rattle.time_merge.specs.declared.ending.End.{End}
@@ -103,21 +105,22 @@ module _ (text : ℕ → ItemData → LineText) (l : Layout) (file : List ℕ) w
   ending_gained before new code.Write ending = (_, ending.1)
 
   -- a lane at the start has all of its items left
-  start_left : (a : Lane) → IsFresh a.cursor → left_of l file a ≡ list_of l file a.part
+  start_left : (a : Lane) → IsFresh a.cursor → left_of file a ≡ list_of a.layout file a.part
   start_left a f =
-      let s : Stands l file a = fresh_stands l file a f in
+      let s : Stands file a = fresh_stands file a f in
       let none : s.used ≡ [] = no_items s.used (sym s.high ∙ f.high) in
-      sym (s.parted ∙ ap (λ (xs : List ItemData). xs ++ left_of l file a) none)
+      sym (s.parted ∙ ap (λ (xs : List ItemData). xs ++ left_of file a) none)
     where
       no_items : (xs : List ItemData) → last_key xs ≡ None → xs ≡ []
       no_items [] e = refl
       no_items (x ∷ xs) e = absurd cc
 
   -- a lane that printed some of its lines since the start, and then was loaded
-  lane_written : (done whole : List CpuLine) (first a b : Lane) → IsAtStart l first → HasPrinted text l file done first a → IsReadied l (Some file) a b
-      → ((p : CpuLine → Bool) → count_by p done ≤ count_by p whole) → HasWritten text l file whole b
+  lane_written : (done whole : List CpuLine) (first a b : Lane) → IsAtStart l first → HasPrinted text file done first a → IsReadied (Some file) a b
+      → ((p : CpuLine → Bool) → count_by p done ≤ count_by p whole) → HasWritten text file whole b
   lane_written done whole first a b start own load more =
       let cpu : b.cpu ≡ first.cpu = load.place.cpu ∙ own.cpu in
+      let layout : b.layout ≡ first.layout = load.place.layout ∙ own.layout in
       let part : b.part ≡ first.part = load.place.part ∙ own.part in
       omega (
         arith,
@@ -127,15 +130,15 @@ module _ (text : ℕ → ItemData → LineText) (l : Layout) (file : List ℕ) w
         own.lines,
         ap (λ (r : Row CpuLine). length r.items) (loaded_row text l file a b load.place load.left),
         waiting_count text l file b,
-        ap (λ (n : ℕ). count_by (has_line text n) (list_of l file b.part)) cpu,
-        ap (λ (p : Part). count_by (has_line text first.cpu) (list_of l file p)) part,
+        ap (λ (n : ℕ). count_by (has_line text n) (list_of b.layout file b.part)) cpu,
+        by_both (λ (k : Layout) (p : Part). count_by (has_line text first.cpu) (list_of k file p)) layout part,
         ap (λ (n : ℕ). count_by (is_of n) done) cpu,
         more (is_of b.cpu),
       )
 
   module _ (len : ℕ) (same_len : length file ≡ len) (some : 0 < l.page) (first : List Lane) (old : Option (List ℕ)) (mid : RoundState) (new : Option (List ℕ)) (before reads after : ℕ)
-      (start : All (IsAtStart l) first) (going : IsFurther text l file (first_state first old) mid) (all : All (IsBetween text l) mid.lanes) (parts : parts_of mid.lanes ≡ parts_of first)
-      (load : HasLoaded l (Some file) len mid.lanes reads after) (rest : List ℕ) where
+      (start : All (IsAtStart l) first) (going : IsFurther text file (first_state first old) mid) (all : All (IsBetween text l) mid.lanes) (parts : parts_of mid.lanes ≡ parts_of first)
+      (load : HasLoaded (Some file) len mid.lanes reads after) (rest : List ℕ) where
     abbrev done_lines : List CpuLine
     done_lines = going.done
 
@@ -151,8 +154,8 @@ module _ (text : ℕ → ItemData → LineText) (l : Layout) (file : List ℕ) w
     whole_count : (p : CpuLine → Bool) → count_by p done_lines ≤ count_by p whole_lines
     unfolding whole_lines
     whole_count p =
-        let is : done_lines ++ left_lines text l file mid.lanes ≡ all_pieces = sym going.parted ∙ start_lines text l file first start in
-        subst (λ (ps : List CpuLine). count_by p done_lines ≤ count_by p (written_pieces ps whole_text)) is (written_count done_lines (left_lines text l file mid.lanes) rest p)
+        let is : done_lines ++ left_lines text file mid.lanes ≡ all_pieces = sym going.parted ∙ start_lines text l file first start in
+        subst (λ (ps : List CpuLine). count_by p done_lines ≤ count_by p (written_pieces ps whole_text)) is (written_count done_lines (left_lines text file mid.lanes) rest p)
 
     all_due : All (AsksDue l len some (due_count text l file whole_lines)) load.now
     all_due i d lt =
@@ -160,22 +163,25 @@ module _ (text : ℕ → ItemData → LineText) (l : Layout) (file : List ℕ) w
         let b : Lane = get_or load.now i d in
         let mid_lt : i < length mid.lanes = omega (arith, lt, load.long) in
         let first_lt : i < length first = omega (arith, mid_lt, going.long) in
-        let one : IsReadied l (Some file) a b = load.each i d mid_lt in
+        let one : IsReadied (Some file) a b = load.each i d mid_lt in
         let few : length b.region.kept ≤ most_lines =
         omega (arith, (all i d mid_lt).few.kept, (all i d mid_lt).few.used, ap (λ (r : Lines). length r.kept) one.place.region) in
-        let has : HasWritten text l file whole_lines b =
+        let has : HasWritten text file whole_lines b =
         lane_written done_lines whole_lines (get_or first i d) a b (start i d first_lt) (going.own i d first_lt) one whole_count in
-        asks_due l len some b (is_page_due text l file whole_lines (b.cpu, b.part)) (λ k asked there.
-        asked_due text l file whole_lines b some (load.in_order i d lt) (one.stands (going.stands i d mid_lt)) few has k asked
-        (subst (λ (n : ℕ). is_there_in l n b.part k ≡ true) (sym same_len) there))
+        let layout : b.layout ≡ l = one.place.layout ∙ (all i d mid_lt).layout_is in
+        subst (λ (m : Layout). size_from m len b.part 0 + reading len b ≤ m.page * due_count text m file whole_lines (b.cpu, b.part) + unread len b) layout
+        (asks_due len b (omega (arith, (carried b.layout).page_least)) (is_page_due text b.layout file whole_lines (b.cpu, b.part)) (λ k asked there.
+        asked_due text file whole_lines b (one.stands (going.stands i d mid_lt)) few has k asked
+        (subst (λ (n : ℕ). is_there_in b.layout n b.part k ≡ true) (sym same_len) there)))
 
     now_parts : parts_of load.now ≡ parts_of first
-    now_parts = parts_on (IsReadied l (Some file)) mid.lanes load.now load.long load.each (λ a b r. r.place.cpu) (λ a b r. r.place.part) ∙ parts
+    now_parts = parts_on (IsReadied (Some file)) mid.lanes load.now load.long load.each (λ a b r. r.place.cpu) (λ a b r. r.place.part) ∙ parts
 
-    pub reads_due : all_unread l len mid.lanes ≤ all_unread l len first → reads ≤ raised before (all_unread l len first - all_unread l len mid.lanes)
+    pub reads_due : all_unread len mid.lanes ≤ all_unread len first → reads ≤ raised before (all_unread len first - all_unread len mid.lanes)
         → Gained mid.written new rest → ReadsDue text l file (parts_of first) old new before after
     unfolding due_bytes whole_lines
     reads_due less read gained =
+        let layouts : All (HasLayout l) first = λ i d lt. (start i d lt).layout_is in
         let fresh : All (λ (a : Lane). IsFresh a.cursor) first = λ i d lt. (start i d lt).cursor in
         let count : ℕ × Part → ℕ = due_count text l file whole_lines in (
           whole_text,
@@ -183,7 +189,7 @@ module _ (text : ℕ → ItemData → LineText) (l : Layout) (file : List ℕ) w
             gained_both old mid.written new (filled_text None done_lines) rest going.gained gained,
             omega (
               arith,
-              fresh_all l len some first fresh,
+              fresh_all l len some first layouts fresh,
               lanes_due l len some count load.now all_due,
               ap (λ (ps : List (ℕ × Part)). l.page * sum_by count ps) now_parts,
               ap (λ (ps : List (ℕ × Part)). sum_by (λ part. size_from l len part.1 0) ps) now_parts,
@@ -198,14 +204,14 @@ module _ (text : ℕ → ItemData → LineText) (l : Layout) (file : List ℕ) w
 -- over a file that may tell its bytes
 pub due_told : (text : ℕ → ItemData → LineText) (l : Layout) (told now_told : Option (List ℕ)) (len now_len : ℕ) (first : List Lane) (old : Option (List ℕ)) (mid now : RoundState) (before reads after : ℕ)
     (end : End) → now_told ≡ told → now_len ≡ len → IfSome told (λ file. length file ≡ len) → 0 < l.page → All (IsAtStart l) first → All (IsBetween text l) mid.lanes → parts_of mid.lanes ≡ parts_of first
-    → IfSome told (λ file. IsFurther text l file (first_state first old) mid)
-    → HasLoaded l now_told now_len mid.lanes reads after → IfSome now_told (λ file. All (Stands l file) mid.lanes → IsTurned text l file mid now (round.Ends end))
-    → all_unread l len mid.lanes ≤ all_unread l len first → reads ≤ raised before (all_unread l len first - all_unread l len mid.lanes)
+    → IfSome told (λ file. IsFurther text file (first_state first old) mid)
+    → HasLoaded now_told now_len mid.lanes reads after → IfSome now_told (λ file. All (Stands file) mid.lanes → IsTurned text l file mid now (round.Ends end))
+    → all_unread len mid.lanes ≤ all_unread len first → reads ≤ raised before (all_unread len first - all_unread len mid.lanes)
     → IfSome told (λ file. ReadsDue text l file (parts_of first) old now.written before after)
 due_told text l None now_told len now_len first old mid now before reads after end same same_len size some start all parts going load turned less read = tt
 due_told text l (Some file) now_told len now_len first old mid now before reads after end same same_len size some start all parts going load turned less read =
-    let ending : All (Stands l file) mid.lanes → IsEnding text l file mid now.written end = subst (λ (o : Option (List ℕ)). IfSome o (λ file. All (Stands l file) mid.lanes → IsEnding text l file mid now.written end)) same turned in
+    let ending : All (Stands file) mid.lanes → IsEnding text l file mid now.written end = subst (λ (o : Option (List ℕ)). IfSome o (λ file. All (Stands file) mid.lanes → IsEnding text l file mid now.written end)) same turned in
     let gained : (rest : List ℕ) × Gained mid.written now.written rest = ending_gained text l file mid now.written end (ending going.stands) in
-    let here : HasLoaded l (Some file) len mid.lanes reads after =
-    subst (λ (n : ℕ). HasLoaded l (Some file) n mid.lanes reads after) same_len (subst (λ (o : Option (List ℕ)). HasLoaded l o now_len mid.lanes reads after) same load) in
+    let here : HasLoaded (Some file) len mid.lanes reads after =
+    subst (λ (n : ℕ). HasLoaded (Some file) n mid.lanes reads after) same_len (subst (λ (o : Option (List ℕ)). HasLoaded o now_len mid.lanes reads after) same load) in
     reads_due text l file len size some first old mid now.written before reads after start going all parts here gained.0 less read gained.1

@@ -22,7 +22,7 @@ use Rattle.time_merge.specs.declared.horizons.Horizon.TheVariants as code
 use Rattle.time_merge.specs.Rows.{Row, IsRow, NotBefore, rank, bound, bound_of, up_to_key, Rise, cpus, coming, least_cut}
 use Rattle.time_merge.specs.Rounds.{Waiting, row_in, rows_in}
 use Rattle.time_merge.specs.Horizons.{high_in, high_of}
-use Rattle.time_merge.specs.LaneRows.{row_of, rows_of, parts_of}
+use Rattle.time_merge.specs.LaneRows.{HasLayout, row_of, rows_of, parts_of}
 use Rattle.time_merge.proofs.Choosing.{all_of_map}
 use Rattle.time_merge.proofs.Known.{from_high}
 use Rattle.time_merge.proofs.LaneLaws.{is_row, cut_is}
@@ -65,16 +65,16 @@ low (Some h) key le = omega arith
 
 module _ (l : Layout) (file : List ℕ) where
   -- nothing of a lane comes before its greatest time so far
-  row_not_before : (n : ℕ) (a : Lane) (s : LaneState) → a.cursor.state ≡ s → Stands l file a → NotBefore n (high_in s a.cursor.high) → From key_of cpu_of n (row_of l file a)
-  row_not_before n a Fresh e s nb = from_high l file a n s (rank_from n a.cursor.high nb)
-  row_not_before n a Held e s nb = from_high l file a n s (rank_from n a.cursor.high nb)
+  row_not_before : (n : ℕ) (a : Lane) (s : LaneState) → a.cursor.state ≡ s → Stands file a → NotBefore n (high_in s a.cursor.high) → From key_of cpu_of n (row_of file a)
+  row_not_before n a Fresh e s nb = from_high file a n s (rank_from n a.cursor.high nb)
+  row_not_before n a Held e s nb = from_high file a n s (rank_from n a.cursor.high nb)
   row_not_before n a Ended e s nb =
-      let none : ((row_of l file a).items ≡ []) × ((row_of l file a).cut ≡ None) = ended_row l file a s e in
+      let none : ((row_of file a).items ≡ []) × ((row_of file a).cut ≡ None) = ended_row l file a s e in
       record {
         items = subst (All (λ x. n ≤ key_of x + 1)) (sym none.0) (All-nil (λ x. n ≤ key_of x + 1));
         cut = subst (λ (o : Option Cut). IfSome o (λ c. n ≤ rank c.key)) (sym none.1) tt;
       }
-  row_not_before n a Malformed e s nb = from_high l file a n s (rank_from n a.cursor.high nb)
+  row_not_before n a Malformed e s nb = from_high file a n s (rank_from n a.cursor.high nb)
 
 -- lines that go on
 rising_append : (m : ℕ) (xs ys : List CpuLine) → IsRising key_in xs → IsRising key_in ys → All (λ x. key_in x ≤ m) xs → All (λ y. m ≤ key_in y) ys → IsRising key_in (xs ++ ys)
@@ -171,12 +171,12 @@ module _ (text : ℕ → ItemData → LineText) (l : Layout) (file : List ℕ) (
   abbrev pub rows_after : List Lane → List (Row CpuLine)
   rows_after lanes = rows_in (map (after text l file h) lanes)
 
-  is_row_after : (a : Lane) → Stands l file a → IsSorted a → IsRow key_in cpu_in (row_in (after text l file h a))
+  is_row_after : (a : Lane) → Stands file a → IsSorted a → IsRow key_in cpu_in (row_in (after text l file h a))
   is_row_after a s sorted =
       let high : Option ℕ = a.cursor.high in
-      let row : Row Keyed = row_of l file a in
-      let is : IsRow key_of cpu_of row = is_row l file a s in
-      let from : From key_of cpu_of (rank high) row = from_high l file a (rank high) s (omega arith) in
+      let row : Row Keyed = row_of file a in
+      let is : IsRow key_of cpu_of row = is_row file a s in
+      let from : From key_of cpu_of (rank high) row = from_high file a (rank high) s (omega arith) in
       let lines : List Line = later_of h a in
       let up : All (λ line. line.key ≤ unwrap_or high 0) lines = (later_all (λ line. line.key ≤ unwrap_or high 0) h a.cpu a.region.kept sorted.up_to) in
       let none : high ≡ None → lines ≡ [] = λ e. ap (later_lines h a.cpu) (sorted.started e) in
@@ -191,25 +191,25 @@ module _ (text : ℕ → ItemData → LineText) (l : Layout) (file : List ℕ) (
         cut_last = of_cut row.cut from.cut is.cut_last lines up none;
       }
     where
-      of_cut : (o : Option Cut) → IfSome o (λ cut. rank a.cursor.high ≤ rank cut.key) → IfSome o (λ cut. All (λ x. key_of x < rank cut.key) (row_of l file a).items)
+      of_cut : (o : Option Cut) → IfSome o (λ cut. rank a.cursor.high ≤ rank cut.key) → IfSome o (λ cut. All (λ x. key_of x < rank cut.key) (row_of file a).items)
           → (lines : List Line) → All (λ line. line.key ≤ unwrap_or a.cursor.high 0) lines → (a.cursor.high ≡ None → lines ≡ [])
-          → IfSome o (λ cut. All (λ x. key_in x < rank cut.key) (map (with_cpu a.cpu) lines ++ shown_lines text (row_of l file a).items))
+          → IfSome o (λ cut. All (λ x. key_in x < rank cut.key) (map (with_cpu a.cpu) lines ++ shown_lines text (row_of file a).items))
       of_cut None le last lines up none = tt
       of_cut (Some cut) le last lines up none =
-          All-append (λ x. key_in x < rank cut.key) (map (with_cpu a.cpu) lines) (shown_lines text (row_of l file a).items)
+          All-append (λ x. key_in x < rank cut.key) (map (with_cpu a.cpu) lines) (shown_lines text (row_of file a).items)
           (all_lines (λ n. n < rank cut.key) a.cpu lines (kept_below a.cursor.high (rank cut.key) lines up none le))
-          (all_shown text (λ x. key_of x < rank cut.key) (λ x. key_in x < rank cut.key) (λ x e. e) (row_of l file a).items last)
+          (all_shown text (λ x. key_of x < rank cut.key) (λ x. key_in x < rank cut.key) (λ x e. e) (row_of file a).items last)
 
   all_after : (P : Row CpuLine → Type 0) (lanes : List Lane) → All (λ a. P (row_in (after text l file h a))) lanes → All P (rows_after lanes)
   all_after P lanes all = All-map P row_in (map (after text l file h) lanes) (All-map (λ w. P (row_in w)) (after text l file h) lanes all)
 
-  rows_are : (lanes : List Lane) → All (Stands l file) lanes → All IsSorted lanes → All (IsRow key_in cpu_in) (rows_after lanes)
+  rows_are : (lanes : List Lane) → All (Stands file) lanes → All IsSorted lanes → All (IsRow key_in cpu_in) (rows_after lanes)
   rows_are lanes s o = all_after (IsRow key_in cpu_in) lanes (λ i d lt. is_row_after (get_or lanes i d) (s i d lt) (o i d lt))
 
-  after_not_before : (n : ℕ) (a : Lane) → Stands l file a → NotBefore n (high_of a) → ((key : ℕ) → is_due h key a.cpu ≡ false → n ≤ key + 1)
+  after_not_before : (n : ℕ) (a : Lane) → Stands file a → NotBefore n (high_of a) → ((key : ℕ) → is_due h key a.cpu ≡ false → n ≤ key + 1)
       → NotBefore n (bound key_in cpu_in (row_in (after text l file h a)))
   after_not_before n a s nb on =
-      let row : Row Keyed = row_of l file a in
+      let row : Row Keyed = row_of file a in
       let from : From key_of cpu_of n row = row_not_before l file n a a.cursor.state refl s nb in
       bound_from n a.cpu (later_of h a) (shown_lines text row.items) row.cut (later_from h n a.cpu on a.region.kept)
       (all_shown text (λ x. n ≤ key_of x + 1) (λ x. n ≤ key_in x + 1) (λ x e. e) row.items from.items) from.cut
@@ -227,29 +227,29 @@ module _ (text : ℕ → ItemData → LineText) (l : Layout) (file : List ℕ) (
     abbrev IsBoundFrom : ℕ → Row CpuLine → Type 0
     IsBoundFrom n r = NotBefore n (bound key_in cpu_in r)
 
-    all_sooner : (lanes : List Lane) → All (Stands l file) lanes → All (λ a. a.cpu < cpu) lanes → All (NotBefore (rank high + 1)) (map high_of lanes) → All (IsBoundFrom (rank high + 1)) (rows_after lanes)
+    all_sooner : (lanes : List Lane) → All (Stands file) lanes → All (λ a. a.cpu < cpu) lanes → All (NotBefore (rank high + 1)) (map high_of lanes) → All (IsBoundFrom (rank high + 1)) (rows_after lanes)
     all_sooner lanes s below nb = all_after (IsBoundFrom (rank high + 1)) lanes (λ i d lt.
         let a : Lane = get_or lanes i d in
         after_not_before (rank high + 1) a (s i d lt) (all_of_map (NotBefore (rank high + 1)) high_of lanes nb i d lt) (λ key e. at.sooner key a.cpu (below i d lt) e))
 
-    all_later : (lanes : List Lane) → All (Stands l file) lanes → All (NotBefore (rank high)) (map high_of lanes) → All (IsBoundFrom (rank high)) (rows_after lanes)
+    all_later : (lanes : List Lane) → All (Stands file) lanes → All (NotBefore (rank high)) (map high_of lanes) → All (IsBoundFrom (rank high)) (rows_after lanes)
     all_later lanes s nb = all_after (IsBoundFrom (rank high)) lanes (λ i d lt.
         let a : Lane = get_or lanes i d in
         after_not_before (rank high) a (s i d lt) (all_of_map (NotBefore (rank high)) high_of lanes nb i d lt) (λ key e. at.later key a.cpu e))
 
     -- the lane of the horizon stands before its malformed sub-buffer
     pub stopped : (lanes : List Lane) (i : ℕ) (front : List Lane) (lane : Lane) (back : List Lane) → IsAround lanes high cpu i front lane back → CpusRise (parts_of lanes)
-        → All (Stands l file) (front ++ lane ∷ back) → All IsSorted (front ++ lane ∷ back) → lane.cursor.state ≡ Malformed
+        → All (Stands file) (front ++ lane ∷ back) → All IsSorted (front ++ lane ∷ back) → lane.cursor.state ≡ Malformed
         → (least_cut (rows_after lanes) ≡ Some (record { key = high; cpu = cpu; page = lane.cursor.next })) × (left_after text l file h lanes ≡ [])
     stopped lanes i front lane back there rise stands sorted malformed =
-        let s : All (Stands l file) front × (Stands l file lane × All (Stands l file) back) = parts_all (Stands l file) front lane back stands in
+        let s : All (Stands file) front × (Stands file lane × All (Stands file) back) = parts_all (Stands file) front lane back stands in
         let o : All IsSorted front × (IsSorted lane × All IsSorted back) = parts_all IsSorted front lane back sorted in
         let own_high : lane.cursor.high ≡ high = high_is lane lane.cursor.state high there.here in
         let row : Row CpuLine = row_in (after text l file h lane) in
-        let none = cut_is l file lane s.1.0 malformed in
+        let none = cut_is file lane s.1.0 malformed in
         let cut : Cut = record { key = lane.cursor.high; cpu = lane.cpu; page = lane.cursor.next } in
         let items : row.items ≡ [] =
-        ap (λ (ls : List Line). map (with_cpu lane.cpu) ls ++ shown_lines text (row_of l file lane).items) (at.none lane o.1.0 there.own own_high)
+        ap (λ (ls : List Line). map (with_cpu lane.cpu) ls ++ shown_lines text (row_of file lane).items) (at.none lane o.1.0 there.own own_high)
         ∙ ap (shown_lines text) none.0 in
         let split : rows_after lanes ≡ rows_after front ++ row ∷ rows_after back = ap rows_after there.split ∙ rows_around front lane back in
         let rises : Rise (cpus (rows_after front ++ row ∷ rows_after back)) = subst (λ (rs : List (Row CpuLine)). Rise (cpus rs)) split (rise_after lanes rise) in
@@ -264,11 +264,11 @@ module _ (text : ℕ → ItemData → LineText) (l : Layout) (file : List ℕ) (
         (ap least_cut split ∙ law.0 ∙ is_cut, ap (coming key_in cpu_in) split ∙ law.1)
 
 -- a row has its lane's cut, whatever lines wait
-pub cut_of_waiting : (l : Layout) (file : List ℕ) (w : Lane → Waiting CpuLine) → ((a : Lane) → (w a).cut ≡ (row_of l file a).cut) → (lanes : List Lane) → least_cut (rows_in (map w lanes)) ≡ cut_of l file (parts_of lanes)
-cut_of_waiting l file w same lanes = ap (fold earlier None) (same_cuts lanes) ∙ cut_of_rows l file lanes
+pub cut_of_waiting : (l : Layout) (file : List ℕ) (w : Lane → Waiting CpuLine) → ((a : Lane) → (w a).cut ≡ (row_of file a).cut) → (lanes : List Lane) → All (HasLayout l) lanes → least_cut (rows_in (map w lanes)) ≡ cut_of l file (parts_of lanes)
+cut_of_waiting l file w same lanes layouts = ap (fold earlier None) (same_cuts lanes) ∙ cut_of_rows l file lanes layouts
   where
-    same_cuts : (lanes : List Lane) → filter_map (λ (row : Row CpuLine). row.cut) (rows_in (map w lanes)) ≡ filter_map (λ (row : Row Keyed). row.cut) (rows_of l file lanes)
+    same_cuts : (lanes : List Lane) → filter_map (λ (row : Row CpuLine). row.cut) (rows_in (map w lanes)) ≡ filter_map (λ (row : Row Keyed). row.cut) (rows_of file lanes)
     same_cuts [] = refl
     same_cuts (a ∷ lanes) =
         ap (λ (o : Option Cut). cons_option o (filter_map (λ (row : Row CpuLine). row.cut) (rows_in (map w lanes)))) (same a)
-        ∙ ap (cons_option (row_of l file a).cut) (same_cuts lanes)
+        ∙ ap (cons_option (row_of file a).cut) (same_cuts lanes)

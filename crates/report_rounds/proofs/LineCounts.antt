@@ -58,13 +58,13 @@ module _ (text : ℕ → ItemData → LineText) where
       ]
 
   -- the lines that a lane has to come are those that it keeps and those of the items that it has left
-  pub waiting_count : (l : Layout) (file : List ℕ) (a : Lane) → length (waiting_row text l file a).items ≡ length a.region.kept + count_by (has_line text a.cpu) (left_of l file a)
+  pub waiting_count : (l : Layout) (file : List ℕ) (a : Lane) → length (waiting_row text file a).items ≡ length a.region.kept + count_by (has_line text a.cpu) (left_of file a)
   waiting_count l file a =
       omega (
         arith,
-        length-append (map (with_cpu a.cpu) a.region.kept) (shown_lines text (row_of l file a).items),
+        length-append (map (with_cpu a.cpu) a.region.kept) (shown_lines text (row_of file a).items),
         length-map a.region.kept (with_cpu a.cpu),
-        shown_count a.cpu (unwrap_or a.cursor.high 0) (left_of l file a),
+        shown_count a.cpu (unwrap_or a.cursor.high 0) (left_of file a),
       )
 
 -- arranging lets no line go
@@ -161,12 +161,12 @@ module _ (h : Horizon) where
 
   -- a lane whose lines up to the horizon are printed has the others to come
   pub printed_waiting : (text : ℕ → ItemData → LineText) (l : Layout) (file : List ℕ) (a b : Lane) → IsPrinted h a b
-      → length (waiting_row text l file a).items ≡ length (due_of h a) + length (waiting_row text l file b).items
+      → length (waiting_row text file a).items ≡ length (due_of h a) + length (waiting_row text file b).items
   printed_waiting text l file a b p =
       omega (
         arith,
-        length-append (map (with_cpu a.cpu) a.region.kept) (shown_lines text (row_of l file a).items),
-        length-append (map (with_cpu b.cpu) b.region.kept) (shown_lines text (row_of l file b).items),
+        length-append (map (with_cpu a.cpu) a.region.kept) (shown_lines text (row_of file a).items),
+        length-append (map (with_cpu b.cpu) b.region.kept) (shown_lines text (row_of file b).items),
         length-map a.region.kept (with_cpu a.cpu),
         length-map b.region.kept (with_cpu b.cpu),
         ap (λ (lines : List Line). length lines) p.kept,

@@ -21,7 +21,7 @@ use Rattle.report_rounds.specs.declared.work.RoundWork.{RoundWork}
 use Rattle.report_rounds.proofs.Pairs.{some_lane}
 
 -- every lane is dirty at first
-pub look_at_all : (text : ℕ → ItemData → LineText) (l : Layout) (lanes : List Lane) (work : RoundWork) → work.moved.items ≡ replicate (length lanes) true → NeedNoLook text l lanes work
+pub look_at_all : (text : ℕ → ItemData → LineText) (l : Layout) (lanes : List Lane) (work : RoundWork) → work.moved.items ≡ replicate (length lanes) true → NeedNoLook text lanes work
 look_at_all text l lanes work is = record {
   ready = λ i d lt unmarked. absurd (marked i lt unmarked);
   settled = λ i d lt unmarked. absurd (marked i lt unmarked);
@@ -50,11 +50,11 @@ told_all f moved slots lanes is i d lt unmarked = ap (λ (keys : List SlotKey). 
 
 -- a round was printed: the lanes that are clean after it were clean before, and are as they were
 module _ (text : ℕ → ItemData → LineText) (l : Layout) (marks moved : List Bool) (formed now : List Lane) (long : length now ≡ length formed) (keeps : KeepsUnmoved moved formed now) (still : KeepsMarks marks moved) where
-  pub need_no_look : (work : RoundWork) → work.moved.items ≡ moved → work.heads ≡ map head_kept now → work.highs ≡ map high_of formed → AllUnmoved (IsReady l) marks formed → All (IsSettled text l) formed
-      → NeedNoLook text l now work
+  pub need_no_look : (work : RoundWork) → work.moved.items ≡ moved → work.heads ≡ map head_kept now → work.highs ≡ map high_of formed → AllUnmoved IsReady marks formed → All (IsSettled text) formed
+      → NeedNoLook text now work
   need_no_look work is heads highs ready settled = record {
-    ready = unmoved_on work.moved.items formed now long kept (IsReady l) (λ i d lt unmarked. ready i d lt (still i (unmarked_in i unmarked)));
-    settled = unmoved_on work.moved.items formed now long kept (IsSettled text l) (λ i d lt unmarked. settled i d lt);
+    ready = unmoved_on work.moved.items formed now long kept IsReady (λ i d lt unmarked. ready i d lt (still i (unmarked_in i unmarked)));
+    settled = unmoved_on work.moved.items formed now long kept (IsSettled text) (λ i d lt unmarked. settled i d lt);
     heads = told_all head_kept work.moved.items work.heads now heads;
     highs = told_on work.moved.items formed now long kept high_of work.highs (told_all high_of work.moved.items work.highs formed highs);
   }

@@ -20,7 +20,7 @@ use Rattle.page_pool.specs.declared.cursor.LaneState.TheVariants.{Fresh, Held, E
 use Rattle.page_pool.specs.declared.lane.Lane.{Lane}
 use Rattle.page_pool.specs.Keeping.{KeepsLane, loading}
 use Rattle.event_cursor.specs.Loading.{KeepsLeft}
-use Rattle.event_cursor.specs.Standing.{IsInOrder, Stands, held_left}
+use Rattle.event_cursor.specs.Standing.{Stands, held_left}
 use Rattle.event_cursor.specs.Loading.{IsReadied}
 use Rattle.tournament_tree.specs.Least.{from_time}
 use Rattle.tournament_tree.proofs.Ranks.{never_empty}
@@ -29,7 +29,7 @@ use Rattle.time_merge.specs.declared.ending.End.TheVariants as ending
 use Rattle.time_merge.specs.declared.horizons.Horizon.{Horizon}
 use Rattle.time_merge.specs.declared.horizons.Horizon.TheVariants as code
 use Rattle.time_merge.specs.Horizons.{IsHorizon, IsLeastLane, high_in}
-use Rattle.time_merge.specs.LaneRows.{IsReady, IsReadyIn, parts_of, row_of}
+use Rattle.time_merge.specs.LaneRows.{HasLayout, IsReady, IsReadyIn, parts_of, row_of}
 use Rattle.time_merge.specs.Rows.{Row, coming}
 use Rattle.time_merge.specs.Rounds.{row_in}
 use Rattle.time_merge.proofs.LaneLaws.{same_row}
@@ -56,30 +56,32 @@ use Rattle.report_rounds.proofs.Progress.{work_formatted, work_less, work_loaded
 use Rattle.report_rounds.proofs.RoundsPrinted.{after, left_after, printed_left, same_lane, wait_with}
 
 -- Lanes that were made ready, and then formatted.
-pub record IsFormed (text : ℕ → ItemData → LineText) (l : Layout) (told : Option (List ℕ)) (first loaded formed : List Lane) : Type 0 where
+pub record IsFormed (text : ℕ → ItemData → LineText) (told : Option (List ℕ)) (first loaded formed : List Lane) : Type 0 where
   pub long_loaded : length loaded ≡ length first
   pub long_formed : length formed ≡ length loaded
-  pub in_order : All (IsInOrder l) loaded
-  pub load : Related (IsReadied l told) first loaded
-  pub ready : All (IsReady l) loaded
-  pub format : Related (IsFormatted text l) loaded formed
+  pub load : Related (IsReadied told) first loaded
+  pub ready : All IsReady loaded
+  pub format : Related (IsFormatted text) loaded formed
 
-module _ (text : ℕ → ItemData → LineText) (l : Layout) (told : Option (List ℕ)) (first loaded formed : List Lane) (f : IsFormed text l told first loaded formed) where
+module _ (text : ℕ → ItemData → LineText) (l : Layout) (told : Option (List ℕ)) (first loaded formed : List Lane) (f : IsFormed text told first loaded formed) where
   loaded_all : All (IsBetween text l) first → All (IsBetween text l) loaded
   loaded_all all = λ i d lt.
       let inside : i < length first = omega (arith, lt, f.long_loaded) in
-      loaded_between text l told (get_or first i d) (get_or loaded i d) (f.in_order i d lt) (f.load i d inside) (all i d inside)
+      loaded_between text l told (get_or first i d) (get_or loaded i d) (f.load i d inside) (all i d inside)
 
   pub formed_all : All (IsBetween text l) first → All (IsBetween text l) formed
-  formed_all all = all_on (IsFormatted text l) (IsBetween text l) (IsBetween text l) loaded formed f.long_formed f.format (formatted_between text l) (loaded_all all)
+  formed_all all = all_on (IsFormatted text) (IsBetween text l) (IsBetween text l) loaded formed f.long_formed f.format (formatted_between text l) (loaded_all all)
+
+  pub formed_layouts : All (IsBetween text l) first → All (HasLayout l) formed
+  formed_layouts all = All-weaker (IsBetween text l) (HasLayout l) (λ a b. b.layout_is) formed (formed_all all)
 
   formed_rises : All (IsBetween text l) first → All KeysRise formed
   formed_rises all = All-weaker (IsBetween text l) KeysRise (λ a b. b.sorted.rises) formed (formed_all all)
 
   pub formed_parts : parts_of formed ≡ parts_of first
   formed_parts =
-      parts_on (IsFormatted text l) loaded formed f.long_formed f.format (λ a b g. g.keeps.cpu) (λ a b g. g.keeps.part)
-      ∙ parts_on (IsReadied l told) first loaded f.long_loaded f.load (λ a b g. g.place.cpu) (λ a b g. g.place.part)
+      parts_on (IsFormatted text) loaded formed f.long_formed f.format (λ a b g. g.keeps.cpu) (λ a b g. g.keeps.part)
+      ∙ parts_on (IsReadied told) first loaded f.long_loaded f.load (λ a b g. g.place.cpu) (λ a b g. g.place.part)
 
   pub formed_rise : CpusRise (parts_of first) → CpusRise (parts_of formed)
   formed_rise rise = subst (λ (ps : List (ℕ × Part)). CpusRise ps) (sym formed_parts) rise
@@ -96,16 +98,16 @@ module _ (text : ℕ → ItemData → LineText) (l : Layout) (told : Option (Lis
 
     -- formatted and then printed
     abbrev IsDone : Lane → Lane → Type 0
-    IsDone a c = (b : Lane) × (IsFormatted text l a b × IsPrinted h b c)
+    IsDone a c = (b : Lane) × (IsFormatted text a b × IsPrinted h b c)
 
     done : Related IsDone loaded now
-    done = related_on (IsFormatted text l) (IsPrinted h) IsDone loaded formed now f.long_formed f.format print (λ a b c g p. (b, (g, p)))
+    done = related_on (IsFormatted text) (IsPrinted h) IsDone loaded formed now f.long_formed f.format print (λ a b c g p. (b, (g, p)))
 
-    work_done : (a c : Lane) → IsDone a c → work_of l c ≤ work_of l a
+    work_done : (a c : Lane) → IsDone a c → work_of c ≤ work_of a
     work_done a c d = omega (arith, work_formatted text l a d.0 d.1.0, work_printed text l h d.0 c d.1.1)
 
-    loaded_less : all_work l loaded ≤ all_work l first
-    loaded_less = sum_on (IsReadied l told) (work_of l) first loaded f.long_loaded f.load (work_loaded text l told)
+    loaded_less : all_work loaded ≤ all_work first
+    loaded_less = sum_on (IsReadied told) work_of first loaded f.long_loaded f.load (work_loaded text l told)
 
     -- of the horizon's lane, where it does not stand before a malformed sub-buffer
     module _ (high : Option ℕ) (cpu : ℕ) (at : IsHorizonAt h high cpu) (least : IsLeastLane formed high cpu) (rise : CpusRise (parts_of formed)) (all : All (IsBetween text l) first)
@@ -113,8 +115,8 @@ module _ (text : ℕ → ItemData → LineText) (l : Layout) (told : Option (Lis
       inside : least.i < length loaded
       inside = omega (arith, least.inside, f.long_formed)
 
-      some_held : (d : Lane) (s : LaneState) → (get_or loaded least.i d).cursor.state ≡ s → 0 < length (held_left l (get_or loaded least.i d))
-      some_held d s e = of_state s (subst (λ (t : LaneState). IsReadyIn t (held_left l a)) e (f.ready least.i d inside))
+      some_held : (d : Lane) (s : LaneState) → (get_or loaded least.i d).cursor.state ≡ s → 0 < length (held_left (get_or loaded least.i d))
+      some_held d s e = of_state s (subst (λ (t : LaneState). IsReadyIn t (held_left a)) e (f.ready least.i d inside))
           (subst (λ (t : LaneState). high_in t b.cursor.high ≡ from_time high) (format.keeps.state ∙ e) there.here)
           (λ bad. sound d (ap (λ (c : Cursor). c.state) print_i.keeps.lane.cursor ∙ format.keeps.state ∙ e ∙ bad))
         where
@@ -124,7 +126,7 @@ module _ (text : ℕ → ItemData → LineText) (l : Layout) (told : Option (Lis
           b : Lane
           b = get_or formed least.i d
 
-          format : IsFormatted text l a b
+          format : IsFormatted text a b
           format = f.format least.i d inside
 
           print_i : IsPrinted h b (get_or now least.i d)
@@ -133,13 +135,13 @@ module _ (text : ℕ → ItemData → LineText) (l : Layout) (told : Option (Lis
           there : IsAround formed high cpu least.i (take least.i formed) b (drop (least.i + 1) formed)
           there = around_least formed d high cpu least rise
 
-          of_state : (s : LaneState) → IsReadyIn s (held_left l a) → high_in s b.cursor.high ≡ from_time high → (s ≡ Malformed → ⊥) → 0 < length (held_left l a)
+          of_state : (s : LaneState) → IsReadyIn s (held_left a) → high_in s b.cursor.high ≡ from_time high → (s ≡ Malformed → ⊥) → 0 < length (held_left a)
           of_state Fresh ready here sound = absurd ready
           of_state Held ready here sound = ready
           of_state Ended ready here sound = absurd (never_empty high (sym here))
           of_state Malformed ready here sound = absurd (sound refl)
 
-      one_less : (d : Lane) → work_of l (get_or now least.i d) < work_of l (get_or loaded least.i d)
+      one_less : (d : Lane) → work_of (get_or now least.i d) < work_of (get_or loaded least.i d)
       one_less d =
           let a : Lane = get_or loaded least.i d in
           let b : Lane = get_or formed least.i d in
@@ -149,14 +151,14 @@ module _ (text : ℕ → ItemData → LineText) (l : Layout) (told : Option (Lis
           work_less text l h a b (get_or now least.i d) between (some_held d a.cursor.state refl) (f.format least.i d inside) (print least.i d least.inside)
           (none_later h high cpu b at formed_here.sorted there.own there.here)
 
-      less_at : all_work l now < all_work l first
+      less_at : all_work now < all_work first
       less_at =
-          let less : all_work l now < all_work l loaded = sum_less IsDone (work_of l) loaded now least.i (long ∙ f.long_formed) done work_done inside one_less in
+          let less : all_work now < all_work loaded = sum_less IsDone work_of loaded now least.i (long ∙ f.long_formed) done work_done inside one_less in
           omega (arith, less, loaded_less)
 
   -- items were used up or lines were printed, unless the rounds end
   pub now_less : (h : Horizon) (now : List Lane) (long : length now ≡ length formed) → Related (IsPrinted h) formed now → (outcome : Outcome) → (is : IsHorizon formed h) → Follows formed now h is outcome
-      → CpusRise (parts_of first) → All (IsBetween text l) first → outcome ≡ round.GoesOn → all_work l now < all_work l first
+      → CpusRise (parts_of first) → All (IsBetween text l) first → outcome ≡ round.GoesOn → all_work now < all_work first
   now_less h now long print (round.Ends end) is stop rise all goes = absurd cc
   now_less code.All now long print round.GoesOn is stop rise all goes = absurd cc
   now_less (code.Start c) now long print round.GoesOn is stop rise all goes = less_at (code.Start c) now long print None c (at_start c) is (formed_rise rise) all stop
@@ -170,68 +172,69 @@ cut_made key cpu page = record { key = key; cpu = cpu; page = page }
 
 -- over a file that tells its bytes
 module _ (text : ℕ → ItemData → LineText) (l : Layout) (file : List ℕ) where
-  rows_are : (lanes : List Lane) → waiting_rows text l file lanes ≡ map (waiting_row text l file) lanes
+  rows_are : (lanes : List Lane) → waiting_rows text file lanes ≡ map (waiting_row text file) lanes
   rows_are [] = refl
-  rows_are (a ∷ lanes) = ap (λ (rs : List (Row CpuLine)). waiting_row text l file a ∷ rs) (rows_are lanes)
+  rows_are (a ∷ lanes) = ap (λ (rs : List (Row CpuLine)). waiting_row text file a ∷ rs) (rows_are lanes)
 
-  left_on : (xs ys : List Lane) → map (waiting_row text l file) ys ≡ map (waiting_row text l file) xs → left_lines text l file ys ≡ left_lines text l file xs
+  left_on : (xs ys : List Lane) → map (waiting_row text file) ys ≡ map (waiting_row text file) xs → left_lines text file ys ≡ left_lines text file xs
   unfolding left_lines
   left_on xs ys e = ap (coming key_in cpu_in) (rows_are ys ∙ e ∙ sym (rows_are xs))
 
-  pub loaded_row : (a b : Lane) → KeepsLane loading a b → KeepsLeft l file a b → waiting_row text l file b ≡ waiting_row text l file a
+  pub loaded_row : (a b : Lane) → KeepsLane loading a b → KeepsLeft file a b → waiting_row text file b ≡ waiting_row text file a
   loaded_row a b p k =
-      ap (λ (r : Row Keyed). row_in (wait_with text b.cpu b.region.kept r)) (same_row l file a b p k)
-      ∙ ap (λ (c : ℕ). row_in (wait_with text c b.region.kept (row_of l file a))) p.cpu
-      ∙ ap (λ (r : Lines). row_in (wait_with text a.cpu r.kept (row_of l file a))) p.region
+      ap (λ (r : Row Keyed). row_in (wait_with text b.cpu b.region.kept r)) (same_row file a b p k)
+      ∙ ap (λ (c : ℕ). row_in (wait_with text c b.region.kept (row_of file a))) p.cpu
+      ∙ ap (λ (r : Lines). row_in (wait_with text a.cpu r.kept (row_of file a))) p.region
 
-  module _ (first loaded formed : List Lane) (f : IsFormed text l (Some file) first loaded formed) (stands : All (Stands l file) first) where
-    formed_left : left_lines text l file formed ≡ left_lines text l file first
+  module _ (first loaded formed : List Lane) (f : IsFormed text (Some file) first loaded formed) (stands : All (Stands file) first) where
+    formed_left : left_lines text file formed ≡ left_lines text file first
     formed_left =
-        left_on loaded formed (map_on (IsFormatted text l) (waiting_row text l file) (waiting_row text l file) loaded formed f.long_formed f.format (λ a b g. formatted_row text l file a b g))
-        ∙ left_on first loaded (map_on (IsReadied l (Some file)) (waiting_row text l file) (waiting_row text l file) first loaded f.long_loaded f.load (λ a b g. loaded_row a b g.place g.left))
+        left_on loaded formed (map_on (IsFormatted text) (waiting_row text file) (waiting_row text file) loaded formed f.long_formed f.format (λ a b g. formatted_row text l file a b g))
+        ∙ left_on first loaded (map_on (IsReadied (Some file)) (waiting_row text file) (waiting_row text file) first loaded f.long_loaded f.load (λ a b g. loaded_row a b g.place g.left))
 
-    formed_stands : All (Stands l file) formed
+    formed_stands : All (Stands file) formed
     formed_stands =
-        all_on (IsFormatted text l) (Stands l file) (Stands l file) loaded formed f.long_formed f.format (λ a b g s. g.stands file s)
-        (all_on (IsReadied l (Some file)) (Stands l file) (Stands l file) first loaded f.long_loaded f.load (λ a b g s. g.stands s) stands)
+        all_on (IsFormatted text) (Stands file) (Stands file) loaded formed f.long_formed f.format (λ a b g s. g.stands file s)
+        (all_on (IsReadied (Some file)) (Stands file) (Stands file) first loaded f.long_loaded f.load (λ a b g s. g.stands s) stands)
 
-    pub now_stands : (h : Horizon) (now : List Lane) → length now ≡ length formed → Related (IsPrinted h) formed now → All (Stands l file) now
+    pub now_stands : (h : Horizon) (now : List Lane) → length now ≡ length formed → Related (IsPrinted h) formed now → All (Stands file) now
     now_stands h now long print =
-        all_on (IsPrinted h) (Stands l file) (Stands l file) formed now long print (λ a b p s. subst (Stands l file) (sym (same_lane a b p.keeps)) (stands_region l file a b.region s)) formed_stands
+        all_on (IsPrinted h) (Stands file) (Stands file) formed now long print (λ a b p s. subst (Stands file) (sym (same_lane a b p.keeps)) (stands_region file a b.region a.in_order s)) formed_stands
 
     module _ (h : Horizon) (is : IsHorizon formed h) (rise : CpusRise (parts_of first)) (all : All (IsBetween text l) first) where
-      formed_parted : left_lines text l file first ≡ printed h formed ++ left_after text l file h formed
+      formed_parted : left_lines text file first ≡ printed h formed ++ left_after text l file h formed
       formed_parted = sym formed_left
           ∙ parted l file text h formed is (formed_rise text l (Some file) first loaded formed f rise) formed_stands (formed_rises text l (Some file) first loaded formed f all)
 
       -- a write failed
-      pub turned_failed : (last : Option ℕ) (old new : Option (List ℕ)) → GainedPrefix old new (filled_text last (printed h formed)) → GainedPrefix old new (filled_text last (left_lines text l file first))
+      pub turned_failed : (last : Option ℕ) (old new : Option (List ℕ)) → GainedPrefix old new (filled_text last (printed h formed)) → GainedPrefix old new (filled_text last (left_lines text file first))
       turned_failed last old new gained =
           subst (λ (xs : List CpuLine). GainedPrefix old new (filled_text last xs)) (sym formed_parted)
           (subst (λ (xs : List ℕ). GainedPrefix old new xs) (sym (text_in_turn last (printed h formed) (left_after text l file h formed)))
           (prefix_longer old new (filled_text last (printed h formed)) (filled_text (last_of last (printed h formed)) (left_after text l file h formed)) gained))
 
-      all_printed : left_after text l file h formed ≡ [] → (last : Option ℕ) (old new : Option (List ℕ)) → Gained old new (filled_text last (printed h formed)) → Gained old new (filled_text last (left_lines text l file first))
+      all_printed : left_after text l file h formed ≡ [] → (last : Option ℕ) (old new : Option (List ℕ)) → Gained old new (filled_text last (printed h formed)) → Gained old new (filled_text last (left_lines text file first))
       all_printed none last old new gained =
-          let whole : left_lines text l file first ≡ printed h formed = formed_parted ∙ ap (λ (xs : List CpuLine). printed h formed ++ xs) none ∙ append-nil (printed h formed) in
+          let whole : left_lines text file first ≡ printed h formed = formed_parted ∙ ap (λ (xs : List CpuLine). printed h formed ++ xs) none ∙ append-nil (printed h formed) in
           subst (λ (xs : List CpuLine). Gained old new (filled_text last xs)) (sym whole) gained
 
       module _ (now : List Lane) (long : length now ≡ length formed) (print : Related (IsPrinted h) formed now) where
         -- of each lane's lines to come those that it printed are gone
-        now_printed : Related (HasPrinted text l file (printed h formed)) first now
+        now_printed : Related (HasPrinted text file (printed h formed)) first now
         now_printed i d lt =
             let a : Lane = get_or first i d in
             let b : Lane = get_or loaded i d in
             let c : Lane = get_or formed i d in
             let loaded_lt : i < length loaded = omega (arith, lt, f.long_loaded) in
             let formed_lt : i < length formed = omega (arith, loaded_lt, f.long_formed) in
-            let load : IsReadied l (Some file) a b = f.load i d lt in
-            let format : IsFormatted text l b c = f.format i d loaded_lt in
+            let load : IsReadied (Some file) a b = f.load i d lt in
+            let format : IsFormatted text b c = f.format i d loaded_lt in
             let p : IsPrinted h c (get_or now i d) = print i d formed_lt in
             let cpu : c.cpu ≡ a.cpu = format.keeps.cpu ∙ load.place.cpu in
-            let row : waiting_row text l file c ≡ waiting_row text l file a = formatted_row text l file b c format ∙ loaded_row a b load.place load.left in
+            let row : waiting_row text file c ≡ waiting_row text file a = formatted_row text l file b c format ∙ loaded_row a b load.place load.left in
             record {
               cpu = p.keeps.lane.cpu ∙ cpu;
+              layout = p.keeps.lane.layout ∙ format.keeps.layout ∙ load.place.layout;
               part = p.keeps.lane.part ∙ format.keeps.part ∙ load.place.part;
               lines = omega (
                 arith,
@@ -243,7 +246,7 @@ module _ (text : ℕ → ItemData → LineText) (l : Layout) (file : List ℕ) w
             }
 
         turned_further : (last last_now : Option ℕ) (old new : Option (List ℕ)) → Gained old new (filled_text last (printed h formed)) → last_now ≡ last_of last (printed h formed)
-            → IsFurther text l file (round_state first last old) (round_state now last_now new)
+            → IsFurther text file (round_state first last old) (round_state now last_now new)
         turned_further last last_now old new gained is_last = record {
           stands = now_stands h now long print;
           done = printed h formed;
@@ -271,9 +274,9 @@ module _ (text : ℕ → ItemData → LineText) (l : Layout) (file : List ℕ) w
             ∙ ap (λ (c : Cursor). ending.Malformed (place_at cpu c.next)) p.keeps.lane.cursor in
             let sorted : All IsSorted formed = All-weaker (IsBetween text l) IsSorted (λ a b. b.sorted) formed (formed_all text l (Some file) first loaded formed f all) in
             let law = stopped text l file h high cpu at formed i (take i formed) lane (drop (i + 1) formed) there rise_formed
-            (subst (All (Stands l file)) there.split formed_stands) (subst (All IsSorted) there.split sorted) state in
+            (subst (All (Stands file)) there.split formed_stands) (subst (All IsSorted) there.split sorted) state in
             let cut : cut_of l file (parts_of first) ≡ Some (cut_made high cpu lane.cursor.next) =
-            ap (cut_of l file) (sym (formed_parts text l (Some file) first loaded formed f)) ∙ sym (cut_of_waiting l file (after text l file h) (λ a. refl) formed) ∙ law.0 in
+            ap (cut_of l file) (sym (formed_parts text l (Some file) first loaded formed f)) ∙ sym (cut_of_waiting l file (after text l file h) (λ a. refl) formed (formed_layouts text l (Some file) first loaded formed f all)) ∙ law.0 in
             subst (λ (e : End). IsEnding text l file (round_state first last old) new e) (sym told) (all_printed law.1 last old new gained, (high, cut))
 
         turned_at : (high : Option ℕ) (cpu : ℕ) → IsHorizonAt h high cpu → (least : IsLeastLane formed high cpu) → (outcome : Outcome) → ((d : Lane) → IsStop (get_or now least.i d) outcome) → (last last_now : Option ℕ) (old new : Option (List ℕ))
@@ -281,33 +284,33 @@ module _ (text : ℕ → ItemData → LineText) (l : Layout) (file : List ℕ) w
         turned_at high cpu at least round.GoesOn stop last last_now old new gained is_last = turned_further last last_now old new gained is_last
         turned_at high cpu at least (round.Ends end) stop last last_now old new gained is_last = turned_stop high cpu end at least stop last old new gained
 
-  cut_none : (first loaded formed : List Lane) → IsFormed text l (Some file) first loaded formed → All (Stands l file) first → IsHorizon formed code.All → cut_of l file (parts_of first) ≡ None
-  cut_none first loaded formed f stands is =
-      ap (cut_of l file) (sym (formed_parts text l (Some file) first loaded formed f)) ∙ sym (cut_of_waiting l file (waiting_of text l file) (λ a. refl) formed)
+  cut_none : (first loaded formed : List Lane) → IsFormed text (Some file) first loaded formed → All (Stands file) first → All (IsBetween text l) first → IsHorizon formed code.All → cut_of l file (parts_of first) ≡ None
+  cut_none first loaded formed f stands all is =
+      ap (cut_of l file) (sym (formed_parts text l (Some file) first loaded formed f)) ∙ sym (cut_of_waiting l file (waiting_of text file) (λ a. refl) formed (formed_layouts text l (Some file) first loaded formed f all))
       ∙ ended_cuts l file text formed (formed_stands first loaded formed f stands) is
 
   -- what a round did whose lines were all written
-  pub turned_ok : (first loaded formed : List Lane) → IsFormed text l (Some file) first loaded formed → (h : Horizon) (now : List Lane) → length now ≡ length formed → Related (IsPrinted h) formed now → (outcome : Outcome)
-      → (is : IsHorizon formed h) → Follows formed now h is outcome → CpusRise (parts_of first) → All (IsBetween text l) first → All (Stands l file) first → (last last_now : Option ℕ) (old new : Option (List ℕ)) → Gained old new (filled_text last (printed h formed))
+  pub turned_ok : (first loaded formed : List Lane) → IsFormed text (Some file) first loaded formed → (h : Horizon) (now : List Lane) → length now ≡ length formed → Related (IsPrinted h) formed now → (outcome : Outcome)
+      → (is : IsHorizon formed h) → Follows formed now h is outcome → CpusRise (parts_of first) → All (IsBetween text l) first → All (Stands file) first → (last last_now : Option ℕ) (old new : Option (List ℕ)) → Gained old new (filled_text last (printed h formed))
       → last_now ≡ last_of last (printed h formed) → IsTurned text l file (round_state first last old) (round_state now last_now new) outcome
   turned_ok first loaded formed f code.All now long print outcome is stop rise all stands last last_now old new gained is_last =
       let none : left_after text l file code.All formed ≡ [] = none_after l file text formed (formed_stands first loaded formed f stands) is in
       subst (λ (o : Outcome). IsTurned text l file (round_state first last old) (round_state now last_now new) o) (sym stop)
-      (all_printed first loaded formed f stands code.All is rise all none last old new gained, cut_none first loaded formed f stands is)
+      (all_printed first loaded formed f stands code.All is rise all none last old new gained, cut_none first loaded formed f stands all is)
   turned_ok first loaded formed f (code.Start c) now long print outcome is stop rise all stands last last_now old new gained is_last =
       turned_at first loaded formed f stands (code.Start c) is rise all now long print None c (at_start c) is outcome stop last last_now old new gained is_last
   turned_ok first loaded formed f (code.To k c) now long print outcome is stop rise all stands last last_now old new gained is_last =
       turned_at first loaded formed f stands (code.To k c) is rise all now long print (Some k) c (at_key k c) is outcome stop last last_now old new gained is_last
 
 module _ (text : ℕ → ItemData → LineText) (l : Layout) where
-  pub turned_told : (told : Option (List ℕ)) (first loaded formed : List Lane) → IsFormed text l told first loaded formed → (h : Horizon) (now : List Lane) → length now ≡ length formed → Related (IsPrinted h) formed now
+  pub turned_told : (told : Option (List ℕ)) (first loaded formed : List Lane) → IsFormed text told first loaded formed → (h : Horizon) (now : List Lane) → length now ≡ length formed → Related (IsPrinted h) formed now
       → (outcome : Outcome) → (is : IsHorizon formed h) → Follows formed now h is outcome → CpusRise (parts_of first) → All (IsBetween text l) first → (last last_now : Option ℕ) (old new : Option (List ℕ)) → Gained old new (filled_text last (printed h formed))
-      → last_now ≡ last_of last (printed h formed) → IfSome told (λ file. All (Stands l file) first → IsTurned text l file (round_state first last old) (round_state now last_now new) outcome)
+      → last_now ≡ last_of last (printed h formed) → IfSome told (λ file. All (Stands file) first → IsTurned text l file (round_state first last old) (round_state now last_now new) outcome)
   turned_told None first loaded formed f h now long print outcome is stop rise all last last_now old new gained is_last = tt
   turned_told (Some file) first loaded formed f h now long print outcome is stop rise all last last_now old new gained is_last = λ stands.
       turned_ok text l file first loaded formed f h now long print outcome is stop rise all stands last last_now old new gained is_last
 
-  pub failed_told : (told : Option (List ℕ)) (first loaded formed : List Lane) → IsFormed text l told first loaded formed → (h : Horizon) → IsHorizon formed h → CpusRise (parts_of first) → All (IsBetween text l) first
-      → (last : Option ℕ) (old new : Option (List ℕ)) → GainedPrefix old new (filled_text last (printed h formed)) → IfSome told (λ file. All (Stands l file) first → GainedPrefix old new (filled_text last (left_lines text l file first)))
+  pub failed_told : (told : Option (List ℕ)) (first loaded formed : List Lane) → IsFormed text told first loaded formed → (h : Horizon) → IsHorizon formed h → CpusRise (parts_of first) → All (IsBetween text l) first
+      → (last : Option ℕ) (old new : Option (List ℕ)) → GainedPrefix old new (filled_text last (printed h formed)) → IfSome told (λ file. All (Stands file) first → GainedPrefix old new (filled_text last (left_lines text file first)))
   failed_told None first loaded formed f h is rise all last old new gained = tt
   failed_told (Some file) first loaded formed f h is rise all last old new gained = λ stands. turned_failed text l file first loaded formed f stands h is rise all last old new gained

@@ -12,20 +12,20 @@ use Rattle.time_merge.specs.Unused.{IsUnused}
 use Rattle.round_print.specs.Prints.{IsTidy}
 use Rattle.report_rounds.specs.Between.{HasRoom, IsAtStart}
 
-at_start : (l : Layout) (room : ℕ) (a : Lane) → IsUnused l.page room a → IsAtStart l a
+at_start : (l : Layout) (room : ℕ) (a : Lane) → IsUnused l room a → IsAtStart l a
 at_start l room a unused = record {
   cursor = unused.fresh;
-  long = ap length unused.page ∙ length-replicate l.page 0;
+  layout_is = unused.layout_is;
   kept = ap (λ (r : Lines). r.kept) unused.region;
   tidy = subst IsTidy (sym unused.region) (record { used = λ e. refl; free = λ e. refl });
 }
 
-pub unused_start : (l : Layout) (room : ℕ) (lanes : List Lane) → All (IsUnused l.page room) lanes → All (IsAtStart l) lanes
-unused_start l room lanes all = All-weaker (IsUnused l.page room) (IsAtStart l) (at_start l room) lanes all
+pub unused_start : (l : Layout) (room : ℕ) (lanes : List Lane) → All (IsUnused l room) lanes → All (IsAtStart l) lanes
+unused_start l room lanes all = All-weaker (IsUnused l room) (IsAtStart l) (at_start l room) lanes all
 
-pub unused_room : (len room : ℕ) (lanes : List Lane) → All (IsUnused len room) lanes → All (λ (lane : Lane). lane.region.room ≡ room) lanes
-unused_room len room lanes all =
-    All-weaker (IsUnused len room) (λ (lane : Lane). lane.region.room ≡ room) (λ a unused. ap (λ (r : Lines). r.room) unused.region ∙ length-replicate room 0) lanes all
+pub unused_room : (l : Layout) (room : ℕ) (lanes : List Lane) → All (IsUnused l room) lanes → All (λ (lane : Lane). lane.region.room ≡ room) lanes
+unused_room l room lanes all =
+    All-weaker (IsUnused l room) (λ (lane : Lane). lane.region.room ≡ room) (λ a unused. ap (λ (r : Lines). r.room) unused.region ∙ length-replicate room 0) lanes all
 
 -- regions of so many bytes have room for lines of at most so many
 pub all_room : (text : ℕ → ItemData → LineText) (room : ℕ) (lanes : List Lane) → All (λ (lane : Lane). lane.region.room ≡ room) lanes

@@ -25,9 +25,13 @@ pub struct RoundLanes {
 }
 
 impl Model for RoundLanes {
+    ghost use Rattle.std.specs.Coded.{codes};
+    ghost use Rattle.page_pool.specs.InOrder.{in_order_coded};
     ghost use Rattle.report_rounds.specs.LanesSeen.{LanesSeen};
 
     ghost Value = { LanesSeen };
+
+    ghost coded = { Prim.hlevel (codes, in_order_coded) };
 
     ghost use Rattle.report_rounds.specs.LanesView.{lanes_view, AreAtStart};
 
@@ -51,7 +55,7 @@ impl RoundLanes {
         ensures room { IfOk result (λ lanes. All (λ lane. lane.region.room ≡ room) lanes.all) }
     {
         let count = parts.len() as u32;
-        let pool = pool_over(alloc, layout.page, room, parts)?;
+        let pool = pool_over(alloc, layout, room, parts)?;
         let heads = TournamentTree::new(alloc, count)?;
         let highs = TournamentTree::new(alloc, count)?;
         let moved = all_dirty(alloc, parts.len())?;

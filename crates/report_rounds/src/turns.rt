@@ -32,23 +32,23 @@ pub(crate) fn turn<R: Threads + Sync, F: File, L: LineFormat, G: Gate, O: Sink>(
     requires between { AreBetween (L.text form.now) layout.now lanes.old work.old }
     ensures between { result ≡ Outcome.GoesOn → AreBetween (L.text form.now) layout.now lanes.new work.new }
     ensures goes_on { result ≡ Outcome.GoesOn
-        → CanGoOn F.File layout.now file.old file.new lanes.old lanes.new }
-    ensures turned { IfSome (F.bytes file.old) (λ bytes. All (Stands layout.now bytes) lanes.old
+        → CanGoOn F.File file.old file.new lanes.old lanes.new }
+    ensures turned { IfSome (F.bytes file.old) (λ bytes. All (Stands bytes) lanes.old
         → IsTurned (L.text form.now) layout.now bytes
         (record { lanes = lanes.old; last = last.old; written = O.written out.old })
         (record { lanes = lanes.new; last = last.new; written = O.written out.new }) result) }
     ensures read { result ≡ Outcome.Ends End.Read → Rose (F.faults file.old) (F.faults file.new) }
     ensures write { result ≡ Outcome.Ends End.Write → Rose (O.faults out.old) (O.faults out.new) }
-    ensures loaded { HasLoaded layout.now (F.bytes file.old) (F.size file.old) lanes.old (F.reads file.old)
+    ensures loaded { HasLoaded (F.bytes file.old) (F.size file.old) lanes.old (F.reads file.old)
         (F.reads file.new) }
     ensures keeps_out { KeepsSink O.Sink out.old out.new }
     ensures keeps { KeepsFile F.File file.old file.new }
 {
-    let Ok(()) = make_moved_ready(layout, file, lanes, work.moved.as_slice()) else {
+    let Ok(()) = make_moved_ready(file, lanes, work.moved.as_slice()) else {
         return Outcome::Ends(End::Read);
     };
-    format_lanes(workers, form, layout, lanes, work.moved.as_slice());
-    settle(layout, lanes, work);
+    format_lanes(workers, form, layout.page, lanes, work.moved.as_slice());
+    settle(lanes, work);
     let least = work.highs.least();
     let known = horizon(lanes, least);
     match print_round(

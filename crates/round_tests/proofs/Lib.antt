@@ -1,3 +1,2 @@
-pub mod FreshLanes
 pub mod FilledLanes
 pub mod RisingParts

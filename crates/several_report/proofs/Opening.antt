@@ -52,7 +52,7 @@ size_same parts = sum_same (λ (part : ℕ × Part). part.1.size) parts (λ part
 
 module _ (words : ReportData) (header : Header) (basis : Basis) (is : IsBasis words header basis) where
   pub basis_fresh : (name : List ℕ) (file : FileSeen) → IsFreshSource (seen_with name file basis)
-  basis_fresh name file = unused_fresh header.layout.page 0 basis.lanes.all is.unused
+  basis_fresh name file = unused_fresh header.layout 0 basis.lanes.all is.unused
 
   basis_shown : (name bytes : List ℕ) (file : FileSeen) → file.bytes ≡ Some bytes
       → shown_of (seen_with name file basis) ≡ without_empty (shown_in words (record { name = name; header = header; bytes = bytes }))

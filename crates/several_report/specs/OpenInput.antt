@@ -50,7 +50,7 @@ pub record IsBasis (words : ReportData) (header : Header) (basis : Basis) : Type
   pub cpus : basis.cpus ≡ header.cpus
   pub context : basis.form.context ≡ context_of words header
   pub parts : parts_of basis.lanes.all ≡ with_bytes (shown_parts words.cpus header.body)
-  pub unused : All (IsUnused header.layout.page 0) basis.lanes.all
+  pub unused : All (IsUnused header.layout 0) basis.lanes.all
 
 -- the header of a file was read, and this is what its lines stand on
 pub record IsRead (words : ReportData) (told : Option (List ℕ)) (before now : ℕ) (basis : Basis) : Type 0 where

@@ -12,11 +12,12 @@ use Rattle.subpage.specs.Marks.{items_from, mark_of}
 use Rattle.subpage.specs.declared.mark.Mark.{Mark}
 use Rattle.subpage.specs.declared.run.RunLimits.{RunLimits}
 use Rattle.subpage.specs.Run.{IsRun, IsLongestRun, nothing, begins_with, run_bytes, time_at}
+use Rattle.page_pool.specs.InOrder.{HasAhead, item_ahead}
 use Rattle.page_pool.specs.declared.lane.Lane.{Lane}
 use Rattle.page_pool.specs.declared.cursor.Ahead.{Ahead}
 use Rattle.page_pool.specs.declared.cursor.LaneState.{LaneState}
 use Rattle.page_pool.specs.declared.cursor.LaneState.TheVariants.{Fresh, Held, Ended, Malformed}
-use Rattle.event_cursor.specs.Standing.{HasAhead, held_left, if_held, keyed_held}
+use Rattle.event_cursor.specs.Standing.{held_left, if_held, keyed_held}
 use Rattle.tournament_tree.specs.declared.slot_key.SlotKey.TheVariants.{At}
 use Rattle.tournament_tree.specs.Least.{from_time}
 use Rattle.tournament_tree.proofs.Ranks.{from_lower}
@@ -89,19 +90,19 @@ later_event l page mark limits until next count found one late =
 
 -- A LANE THAT HOLDS A SUB-BUFFER
 
-module _ (l : Layout) (a : Lane) (held : a.cursor.state ≡ Held) where
+module _ (a : Lane) (held : a.cursor.state ≡ Held) where
   abbrev there : List ItemData
-  there = items_from l a.page a.cursor.mark
+  there = items_from a.layout a.page a.cursor.mark
 
-  held_is : held_left l a ≡ there
+  held_is : held_left a ≡ there
   held_is = ap (λ (s : LaneState). if_held s there) held
 
   -- its next item is later
-  pub next_later : (ahead : Ahead) (until most n : ℕ) → HasAhead l a.page a.cursor.mark a.cursor.high ahead → n < ahead.key → HoldsLater l n most a
+  pub next_later : (ahead : Ahead) (until most n : ℕ) → HasAhead a.layout a.page a.cursor.mark a.cursor.high ahead → n < ahead.key → HoldsLater n most a
   next_later ahead until most n has late = record {
     front = [];
-    item = has.first;
-    rest = items_from l a.page (mark_of ahead.behind);
+    item = item_ahead a.page a.cursor.mark ahead;
+    rest = items_from a.layout a.page (mark_of ahead.behind);
     held = held_is ∙ has.items;
     few = omega arith;
     events = All-nil IsEventItem;
@@ -109,7 +110,7 @@ module _ (l : Layout) (a : Lane) (held : a.cursor.state ≡ Held) where
   }
 
   -- the one after a run
-  pub behind_later : (limits : RunLimits) (next : Mark) (count until most : ℕ) → IsLongestRun l a.page a.cursor.mark limits next count → limits.events ≤ most → HasLater l a.page next until → HoldsLater l until most a
+  pub behind_later : (limits : RunLimits) (next : Mark) (count until most : ℕ) → IsLongestRun a.layout a.page a.cursor.mark limits next count → limits.events ≤ most → HasLater a.layout a.page next until → HoldsLater until most a
   behind_later limits next count until most found le later =
       let to = found.run in
       record {
@@ -118,24 +119,24 @@ module _ (l : Layout) (a : Lane) (held : a.cursor.state ≡ Held) where
         rest = later.rest;
         held = held_is ∙ to.left ∙ ap (λ (xs : List ItemData). to.items ++ xs) later.items;
         few = omega (arith, to.long, found.few, le);
-        events = run_is_events l.order (time_at a.cursor.mark) (time_at next) to.items (run_bytes a.page a.cursor.mark next) to.run;
+        events = run_is_events a.layout.order (time_at a.cursor.mark) (time_at next) to.items (run_bytes a.page a.cursor.mark next) to.run;
         later = omega (arith, later.later);
       }
 
   -- the last of a run
-  pub last_later : (limits : RunLimits) (next : Mark) (count until most : ℕ) → IsLongestRun l a.page a.cursor.mark limits next count → limits.events ≤ most → until < time_at next → HoldsLater l until most a
+  pub last_later : (limits : RunLimits) (next : Mark) (count until most : ℕ) → IsLongestRun a.layout a.page a.cursor.mark limits next count → limits.events ≤ most → until < time_at next → HoldsLater until most a
   last_later limits next count until most found le late =
       let to = found.run in
       let bytes = run_bytes a.page a.cursor.mark next in
-      let last = run_last l.order (time_at a.cursor.mark) (time_at next) to.items bytes to.run (omega (arith, to.long, found.some)) in
-      let rest = items_from l a.page next in
+      let last = run_last a.layout.order (time_at a.cursor.mark) (time_at next) to.items bytes to.run (omega (arith, to.long, found.some)) in
+      let rest = items_from a.layout a.page next in
       record {
         front = last.front;
         item = last.item;
         rest = rest;
         held = held_is ∙ to.left ∙ ap (λ (xs : List ItemData). xs ++ rest) last.is ∙ append_assoc last.front (last.item ∷ []) rest;
         few = omega (arith, to.long, found.few, le, ap length last.is, length-append last.front (last.item ∷ []));
-        events = front_events last.front (last.item ∷ []) (subst (All IsEventItem) last.is (run_is_events l.order (time_at a.cursor.mark) (time_at next) to.items bytes to.run));
+        events = front_events last.front (last.item ∷ []) (subst (All IsEventItem) last.is (run_is_events a.layout.order (time_at a.cursor.mark) (time_at next) to.items bytes to.run));
         later = let time = last.time in omega (arith, late, time);
       }
 
@@ -151,28 +152,28 @@ below_run (Some h) P none = subst (λ (o : Option FoundRun). IfSome o P) (sym no
 
 -- ANY LANE
 
-reaches_held : (l : Layout) (until most : ℕ) (a : Lane) → a.cursor.state ≡ Held → HoldsLater l until most a → ReachesPast l until most a
-reaches_held l until most a is h = subst (λ (s : LaneState). ReachesPastIn s l until most a) (sym is) h
+reaches_held : (until most : ℕ) (a : Lane) → a.cursor.state ≡ Held → HoldsLater until most a → ReachesPast until most a
+reaches_held until most a is h = subst (λ (s : LaneState). ReachesPastIn s until most a) (sym is) h
 
-pub reaches_found : (l : Layout) (most until : ℕ) (a : Lane) → a.cursor.state ≡ Held → (found : Option LaneHorizon) → IfSome found (λ f. (f.until ≤ until) × HoldsLater l f.until most a)
-    → IfSome found (λ f. (f.until ≤ until) × ReachesPast l f.until most a)
-reaches_found l most until a is None h = tt
-reaches_found l most until a is (Some f) h = (h.0, reaches_held l f.until most a is h.1)
+pub reaches_found : (most until : ℕ) (a : Lane) → a.cursor.state ≡ Held → (found : Option LaneHorizon) → IfSome found (λ f. (f.until ≤ until) × HoldsLater f.until most a)
+    → IfSome found (λ f. (f.until ≤ until) × ReachesPast f.until most a)
+reaches_found most until a is None h = tt
+reaches_found most until a is (Some f) h = (h.0, reaches_held f.until most a is h.1)
 
-pub reaches_ended : (l : Layout) (until most : ℕ) (a : Lane) → a.cursor.state ≡ Ended → ReachesPast l until most a
-reaches_ended l until most a is = subst (λ (s : LaneState). ReachesPastIn s l until most a) (sym is) tt
+pub reaches_ended : (until most : ℕ) (a : Lane) → a.cursor.state ≡ Ended → ReachesPast until most a
+reaches_ended until most a is = subst (λ (s : LaneState). ReachesPastIn s until most a) (sym is) tt
 
-pub reaches_cut : (l : Layout) (until most high : ℕ) (a : Lane) → a.cursor.state ≡ Malformed → a.cursor.high ≡ Some high → until < high → ReachesPast l until most a
-reaches_cut l until most high a is key late =
-    let next : next_of l a ≡ At high = ap (λ (s : LaneState). next_in s a.cursor.high (keyed_held l a)) is ∙ ap from_time key in
+pub reaches_cut : (until most high : ℕ) (a : Lane) → a.cursor.state ≡ Malformed → a.cursor.high ≡ Some high → until < high → ReachesPast until most a
+reaches_cut until most high a is key late =
+    let next : next_of a ≡ At high = ap (λ (s : LaneState). next_in s a.cursor.high (keyed_held a)) is ∙ ap from_time key in
     let after : NotBefore (until + 2) (At high) = omega (arith, late) in
-    subst (λ (s : LaneState). ReachesPastIn s l until most a) (sym is) (subst (NotBefore (until + 2)) (sym next) after)
+    subst (λ (s : LaneState). ReachesPastIn s until most a) (sym is) (subst (NotBefore (until + 2)) (sym next) after)
 
 -- what is known up to a key is known up to an earlier one
-pub reaches_sooner : (l : Layout) (until most n : ℕ) (a : Lane) → n ≤ until → ReachesPast l until most a → ReachesPast l n most a
-reaches_sooner l until most n a le h = by_state a.cursor.state h
+pub reaches_sooner : (until most n : ℕ) (a : Lane) → n ≤ until → ReachesPast until most a → ReachesPast n most a
+reaches_sooner until most n a le h = by_state a.cursor.state h
   where
-    by_state : (s : LaneState) → ReachesPastIn s l until most a → ReachesPastIn s l n most a
+    by_state : (s : LaneState) → ReachesPastIn s until most a → ReachesPastIn s n most a
     by_state Fresh h = h
     by_state Held h = record {
       front = h.front;
@@ -184,12 +185,12 @@ reaches_sooner l until most n a le h = by_state a.cursor.state h
       later = omega (arith, le, h.later);
     }
     by_state Ended h = tt
-    by_state Malformed h = from_lower (n + 2) (until + 2) (next_of l a) (omega (arith, le)) h
+    by_state Malformed h = from_lower (n + 2) (until + 2) (next_of a) (omega (arith, le)) h
 
 -- one lane more
-pub reaches_more : (l : Layout) (most until now i : ℕ) (lanes : List Lane) → now ≤ until → ((j : ℕ) (d : Lane) → j < i → ReachesPast l until most (get_or lanes j d)) → ((d : Lane) → ReachesPast l now most (get_or lanes i d))
-    → (j : ℕ) (d : Lane) → j < i + 1 → ReachesPast l now most (get_or lanes j d)
-reaches_more l most until now i lanes le before here j d lt = elim (cases_eq j i) [
-  | inl same ↦ subst (λ (k : ℕ). ReachesPast l now most (get_or lanes k d)) (sym same) (here d)
-  | inr other ↦ reaches_sooner l until most now (get_or lanes j d) le (before j d (omega (arith, lt, other)))
+pub reaches_more : (most until now i : ℕ) (lanes : List Lane) → now ≤ until → ((j : ℕ) (d : Lane) → j < i → ReachesPast until most (get_or lanes j d)) → ((d : Lane) → ReachesPast now most (get_or lanes i d))
+    → (j : ℕ) (d : Lane) → j < i + 1 → ReachesPast now most (get_or lanes j d)
+reaches_more most until now i lanes le before here j d lt = elim (cases_eq j i) [
+  | inl same ↦ subst (λ (k : ℕ). ReachesPast now most (get_or lanes k d)) (sym same) (here d)
+  | inr other ↦ reaches_sooner until most now (get_or lanes j d) le (before j d (omega (arith, lt, other)))
 ]

@@ -1,8 +1,10 @@
 -- Lanes that were lent as a whole.
-use Rattle.std.proofs.Common.{◌≡◌, List, Result, Ok, Err, length, ap, subst, sym, ◌∙◌}
+use Rattle.std.proofs.Common.{◌≡◌, List, Result, Ok, Err, length, refl, ap, subst, sym, ◌∙◌}
 use Rattle.std.specs.Result.{OnOk}
 use Rattle.page_pool.specs.Lending.{written}
+use Rattle.page_pool.specs.InOrder.{IsInOrder}
 use Rattle.page_pool.specs.declared.lane.Lane.{Lane}
+use Rattle.page_pool.proofs.Keeping.{one_lane}
 use Rattle.event_cursor.specs.declared.places.Place.{Place}
 use Rattle.time_merge.specs.LaneRows.{parts_of}
 use Rattle.time_merge.proofs.Advancing.{same_length}
@@ -23,3 +25,7 @@ on_ok_all (Err e) all p q r = tt
 
 pub noted_there : (given lanes : List Lane) (fronts now : List Place) → given ≡ lanes → now ≡ fronts → AreNoted given fronts → AreNoted lanes now
 noted_there given lanes fronts now same is noted = subst (λ (ps : List Place). AreNoted lanes ps) (sym is) (subst (λ (ls : List Lane). AreNoted ls fronts) same noted)
+
+-- a lane whose fact was shown anew is the lane itself
+pub lane_again : (a : Lane) (order : IsInOrder a.layout a.page a.cursor) → record a { in_order = order } ≡ a
+lane_again a order = one_lane (record a { in_order = order }) a refl refl refl refl refl refl

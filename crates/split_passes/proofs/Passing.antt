@@ -3,7 +3,6 @@ use Rattle.std.proofs.Common.{◌≡◌, ℕ, ◌+◌, ◌-◌, ◌<◌, ◌≤�
 use Rattle.std.specs.Option.{IfSome}
 use Rattle.std.specs.List.{All}
 use Rattle.std.proofs.lemmas.List.Elements.{All-set, All-get_or}
-use Rattle.trace_base.specs.declared.layout.Layout.{Layout}
 use Rattle.subpage.specs.Arrangement.{Keyed, IsRising, key_of, cpu_of, by_key}
 use Rattle.subpage.proofs.Arranging.{by_key-rising}
 use Rattle.subpage.proofs.Filters.{filter-rising}
@@ -29,55 +28,55 @@ pub come_rising : (rows : List (Row Keyed)) → IsRising key_of (coming key_of c
 come_rising rows = filter-rising key_of (λ x. up_to (least_cut rows) (key_of x) (cpu_of x)) (by_key key_of (together rows)) (by_key-rising key_of (together rows))
 
 -- what was passed over stands before the start
-pub record Passing (l : Layout) (file : List ℕ) (start : Option Moment) (first now : List Lane) : Type 0 where
-  pub stands : All (Stands l file) now
-  pub come : from_start start (to_come l file first) ≡ from_start start (to_come l file now)
+pub record Passing (file : List ℕ) (start : Option Moment) (first now : List Lane) : Type 0 where
+  pub stands : All (Stands file) now
+  pub come : from_start start (to_come file first) ≡ from_start start (to_come file now)
 
-pub passing_none : (l : Layout) (file : List ℕ) (start : Option Moment) (lanes : List Lane) → All (Stands l file) lanes → Passing l file start lanes lanes
-passing_none l file start lanes s = record { stands = s; come = refl }
+pub passing_none : (file : List ℕ) (start : Option Moment) (lanes : List Lane) → All (Stands file) lanes → Passing file start lanes lanes
+passing_none file start lanes s = record { stands = s; come = refl }
 
 -- lanes were loaded
-pub passing_loaded : (l : Layout) (told now_told : Option (List ℕ)) (start : Option Moment) (first lanes lanes1 : List Lane) (end : Next) → now_told ≡ told
-    → IfSome told (λ file. All (Stands l file) first → Passing l file start first lanes)
-    → IfSome now_told (λ file. rows_of l file lanes1 ≡ rows_of l file lanes)
-    → IfSome now_told (λ file. All (Stands l file) lanes → All (Stands l file) lanes1)
-    → IfSome now_told (λ file. All (Stands l file) lanes → IsNext l file lanes1 end)
-    → IfSome told (λ file. All (Stands l file) first → Passing l file start first lanes1 × IsNext l file lanes1 end)
-passing_loaded l None now_told start first lanes lanes1 end e passing rows stands next = tt
-passing_loaded l (Some file) now_told start first lanes lanes1 end e passing rows stands next = λ s.
+pub passing_loaded : (told now_told : Option (List ℕ)) (start : Option Moment) (first lanes lanes1 : List Lane) (end : Next) → now_told ≡ told
+    → IfSome told (λ file. All (Stands file) first → Passing file start first lanes)
+    → IfSome now_told (λ file. rows_of file lanes1 ≡ rows_of file lanes)
+    → IfSome now_told (λ file. All (Stands file) lanes → All (Stands file) lanes1)
+    → IfSome now_told (λ file. All (Stands file) lanes → IsNext file lanes1 end)
+    → IfSome told (λ file. All (Stands file) first → Passing file start first lanes1 × IsNext file lanes1 end)
+passing_loaded None now_told start first lanes lanes1 end e passing rows stands next = tt
+passing_loaded (Some file) now_told start first lanes lanes1 end e passing rows stands next = λ s.
     let p = passing s in
-    let rows : rows_of l file lanes1 ≡ rows_of l file lanes = subst (λ (o : Option (List ℕ)). IfSome o (λ file. rows_of l file lanes1 ≡ rows_of l file lanes)) e rows in
-    let stand : All (Stands l file) lanes → All (Stands l file) lanes1 = subst (λ (o : Option (List ℕ)). IfSome o (λ file. All (Stands l file) lanes → All (Stands l file) lanes1)) e stands in
-    let comes : All (Stands l file) lanes → IsNext l file lanes1 end = subst (λ (o : Option (List ℕ)). IfSome o (λ file. All (Stands l file) lanes → IsNext l file lanes1 end)) e next in
+    let rows : rows_of file lanes1 ≡ rows_of file lanes = subst (λ (o : Option (List ℕ)). IfSome o (λ file. rows_of file lanes1 ≡ rows_of file lanes)) e rows in
+    let stand : All (Stands file) lanes → All (Stands file) lanes1 = subst (λ (o : Option (List ℕ)). IfSome o (λ file. All (Stands file) lanes → All (Stands file) lanes1)) e stands in
+    let comes : All (Stands file) lanes → IsNext file lanes1 end = subst (λ (o : Option (List ℕ)). IfSome o (λ file. All (Stands file) lanes → IsNext file lanes1 end)) e next in
     (record { stands = stand p.stands; come = p.come ∙ ap (λ (rs : List (Row Keyed)). from_start start (coming key_of cpu_of rs)) (sym rows) }, comes p.stands)
 
 -- an item before the start
-pub passing_on : (l : Layout) (file : List ℕ) (m : Moment) (first lanes : List Lane) (i : ℕ) (d d2 now : Lane) (b : Bool) → i < length lanes → (next : IsNextLane l file lanes i) → IsStepped l (get_or lanes i d) now
-    → ((x : Keyed) → first_of (keyed_held l (get_or lanes i d2)) ≡ Some x → b ≡ is_before m x.key) → b ≡ true → Passing l file (Some m) first lanes → Passing l file (Some m) first (set lanes i now)
-passing_on l file m first lanes i d d2 now b lt next s before is p =
+pub passing_on : (file : List ℕ) (m : Moment) (first lanes : List Lane) (i : ℕ) (d d2 now : Lane) (b : Bool) → i < length lanes → (next : IsNextLane file lanes i) → IsStepped (get_or lanes i d) now
+    → ((x : Keyed) → first_of (keyed_held (get_or lanes i d2)) ≡ Some x → b ≡ is_before m x.key) → b ≡ true → Passing file (Some m) first lanes → Passing file (Some m) first (set lanes i now)
+passing_on file m first lanes i d d2 now b lt next s before is p =
     let x = next.item in
     let early : is_before m x.key ≡ true = sym (before x (next.first d2)) ∙ is in
     record {
-      stands = All-set (Stands l file) lanes i now (stands_stepped l file (get_or lanes i d) now s (All-get_or (Stands l file) lanes i d lt p.stands)) p.stands;
-      come = p.come ∙ ap (from_start (Some m)) (next.used d now s) ∙ passed_one m x (to_come l file (set lanes i now)) early;
+      stands = All-set (Stands file) lanes i now (stands_stepped file (get_or lanes i d) now s (All-get_or (Stands file) lanes i d lt p.stands)) p.stands;
+      come = p.come ∙ ap (from_start (Some m)) (next.used d now s) ∙ passed_one m x (to_come file (set lanes i now)) early;
     }
 
 -- the next item is not before the start
-pub passed_all : (l : Layout) (file : List ℕ) (m : Moment) (first lanes : List Lane) (i : ℕ) (d : Lane) (b : Bool) → (next : IsNextLane l file lanes i)
-    → ((x : Keyed) → first_of (keyed_held l (get_or lanes i d)) ≡ Some x → b ≡ is_before m x.key) → b ≡ false → Passing l file (Some m) first lanes → ListStarted l file (Some m) first lanes
-passed_all l file m first lanes i d b next before is p =
+pub passed_all : (file : List ℕ) (m : Moment) (first lanes : List Lane) (i : ℕ) (d : Lane) (b : Bool) → (next : IsNextLane file lanes i)
+    → ((x : Keyed) → first_of (keyed_held (get_or lanes i d)) ≡ Some x → b ≡ is_before m x.key) → b ≡ false → Passing file (Some m) first lanes → ListStarted file (Some m) first lanes
+passed_all file m first lanes i d b next before is p =
     let x = next.item in
     let late : is_before m x.key ≡ false = sym (before x (next.first d)) ∙ is in
-    let come : to_come l file lanes ≡ x ∷ next.come.0 = next.come.1 in
-    let all : from_start (Some m) (x ∷ next.come.0) ≡ x ∷ next.come.0 = none_before m x next.come.0 (subst (IsRising key_of) come (come_rising (rows_of l file lanes))) late in
+    let come : to_come file lanes ≡ x ∷ next.come.0 = next.come.1 in
+    let all : from_start (Some m) (x ∷ next.come.0) ≡ x ∷ next.come.0 = none_before m x next.come.0 (subst (IsRising key_of) come (come_rising (rows_of file lanes))) late in
     record { stands = p.stands; come = come ∙ sym all ∙ ap (from_start (Some m)) (sym come) ∙ sym p.come }
 
 -- nothing is left
-pub passed_out : (l : Layout) (file : List ℕ) (start : Option Moment) (first lanes : List Lane) → to_come l file lanes ≡ [] → Passing l file start first lanes → ListStarted l file start first lanes
-passed_out l file start first lanes none p =
+pub passed_out : (file : List ℕ) (start : Option Moment) (first lanes : List Lane) → to_come file lanes ≡ [] → Passing file start first lanes → ListStarted file start first lanes
+passed_out file start first lanes none p =
     record { stands = p.stands; come = none ∙ sym (nothing_left start) ∙ ap (from_start start) (sym none) ∙ sym p.come }
 
 -- ALL THAT WAS READ
 
-pub ready_done : (l : Layout) (len : ℕ) (lanes : List Lane) (first after all : ℕ) → All (IsReady l) lanes → after ≤ raised first (all - all_unread l len lanes + all_reading l len lanes) → after ≤ raised first (all - all_unread l len lanes)
-ready_done l len lanes first after all ready read = omega (arith, read, none_reading l len lanes ready)
+pub ready_done : (len : ℕ) (lanes : List Lane) (first after all : ℕ) → All IsReady lanes → after ≤ raised first (all - all_unread len lanes + all_reading len lanes) → after ≤ raised first (all - all_unread len lanes)
+ready_done len lanes first after all ready read = omega (arith, read, none_reading len lanes ready)

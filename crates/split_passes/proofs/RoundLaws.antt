@@ -6,8 +6,6 @@ use Rattle.std.proofs.lemmas.Bool.{cases_Bool, lt-ltb, eq-eqb, ne_eqb}
 use Rattle.std.proofs.lemmas.List.{length-append}
 use Rattle.std.proofs.lemmas.List.Sums.{sum_by-cons}
 use Rattle.std.proofs.lemmas.List.Elements.{All-nil, All-cons, All-head, All-tail, All-append, All-weaker, filter-append}
-use Rattle.trace_base.specs.declared.layout.Layout.{Layout}
-use Rattle.trace_base.specs.declared.part.Part.{Part}
 use Rattle.subpage.specs.ItemData.{ItemData, item_time}
 use Rattle.subpage.specs.Arrangement.{Keyed, CpusRise, IsRising, key_of, cpu_of, keyed_from, with_key, by_key, put}
 use Rattle.subpage.specs.Cut.{Cut, own_cut}
@@ -15,6 +13,7 @@ use Rattle.subpage.proofs.Arranging.{one_rising, by_key-rising, by_key-with_key}
 use Rattle.subpage.proofs.Filters.{filter-filter, filter-rising}
 use Rattle.subpage.proofs.Keys.{items_kept}
 use Rattle.page_pool.specs.declared.lane.Lane.{Lane}
+use Rattle.page_pool.proofs.Keeping.{by_both}
 use Rattle.event_cursor.specs.Keys.{keyed_behind}
 use Rattle.event_cursor.specs.Standing.{Stands, left_of}
 use Rattle.event_cursor.proofs.Standing.{left_over, stands_over}
@@ -139,39 +138,39 @@ own_taken lanes lists i d rise lt long =
 
 -- FILES
 
-module _ (l : Layout) (file : List ℕ) (until : ℕ) where
+module _ (file : List ℕ) (until : ℕ) where
   -- A lane used up its items up to the horizon: nothing else of it comes before that.
   pub record Took (a b : Lane) (xs : List ItemData) : Type 0 where
-    pub stands : Stands l file b
-    pub is : IsRow key_of cpu_of (row_of l file b)
-    pub left : left_of l file a ≡ xs ++ left_of l file b
-    pub items : (row_of l file a).items ≡ keyed_used a xs ++ (row_of l file b).items
+    pub stands : Stands file b
+    pub is : IsRow key_of cpu_of (row_of file b)
+    pub left : left_of file a ≡ xs ++ left_of file b
+    pub items : (row_of file a).items ≡ keyed_used a xs ++ (row_of file b).items
     pub cpu : b.cpu ≡ a.cpu
-    pub cut : own_cut l file (b.cpu, b.part) ≡ own_cut l file (a.cpu, a.part)
+    pub cut : own_cut b.layout file (b.cpu, b.part) ≡ own_cut a.layout file (a.cpu, a.part)
     pub up_to : All (IsEventUpTo until) (keyed_used a xs)
-    pub later : From key_of cpu_of ((until + 1) + 1) (row_of l file b)
+    pub later : From key_of cpu_of ((until + 1) + 1) (row_of file b)
 
-  used_stands : (xs : List ItemData) (a b : Lane) → IsUsed l xs a b → Stands l file a → Stands l file b × (left_of l file a ≡ xs ++ left_of l file b)
-  used_stands xs a b (inl u) s = (subst (Stands l file) (sym u.1) s, ap (left_of l file) (sym u.1) ∙ ap (λ (ys : List ItemData). ys ++ left_of l file b) (sym u.0))
-  used_stands xs a b (inr u) s = (stands_over l file xs a b u.0 u.1 s, left_over l file xs a b u.1)
+  used_stands : (xs : List ItemData) (a b : Lane) → IsUsed xs a b → Stands file a → Stands file b × (left_of file a ≡ xs ++ left_of file b)
+  used_stands xs a b (inl u) s = (subst (Stands file) (sym u.1) s, ap (left_of file) (sym u.1) ∙ ap (λ (ys : List ItemData). ys ++ left_of file b) (sym u.0))
+  used_stands xs a b (inr u) s = (stands_over file xs a b u.0 u.1 s, left_over file xs a b u.1)
 
-  pub took : (most : ℕ) (a b : Lane) (t u : Tally) (xs : List ItemData) → Stands l file a → TakesUpTo l until most a b t u xs → Took a b xs
+  pub took : (most : ℕ) (a b : Lane) (t u : Tally) (xs : List ItemData) → Stands file a → TakesUpTo until most a b t u xs → Took a b xs
   took most a b t u xs s h =
       let now = used_stands xs a b h.few.used s in
-      let keeps = used_keeps l xs a b h.few.used in
+      let keeps = used_keeps xs a b h.few.used in
       record {
         stands = now.0;
-        is = is_row l file b now.0;
+        is = is_row file b now.0;
         left = now.1;
-        items = ap (keyed_behind a.cpu a.cursor.high) now.1 ∙ used_keys l xs (left_of l file b) a b h.few.used;
+        items = ap (keyed_behind a.cpu a.cursor.high) now.1 ∙ used_keys xs (left_of file b) a b h.few.used;
         cpu = keeps.cpu;
-        cut = ap (λ (p : ℕ × Part). own_cut l file p) (cc (keeps.cpu, keeps.part));
+        cut = ap (λ (c : ℕ). own_cut b.layout file (c, b.part)) keeps.cpu ∙ by_both (λ k q. own_cut k file (a.cpu, q)) keeps.layout keeps.part;
         up_to = events_up_to until a.cpu (unwrap_or a.cursor.high 0) xs h.events h.few.up_to;
-        later = let same : until + 2 ≡ (until + 1) + 1 = omega arith in from_next ((until + 1) + 1) (row_of l file b) (is_row l file b now.0) (subst (NotBefore ((until + 1) + 1)) (sym (bound_is l file b now.0 h.ready)) (subst (λ (n : ℕ). NotBefore n (next_of l b)) same h.later));
+        later = let same : until + 2 ≡ (until + 1) + 1 = omega arith in from_next ((until + 1) + 1) (row_of file b) (is_row file b now.0) (subst (NotBefore ((until + 1) + 1)) (sym (bound_is file b now.0 h.ready)) (subst (λ (n : ℕ). NotBefore n (next_of b)) same h.later));
       }
 
   abbrev waiting : Lane → Lane → List ItemData → Waiting Keyed
-  waiting a b xs = record { cpu = a.cpu; kept = keyed_used a xs; more = (row_of l file b).items; cut = own_cut l file (a.cpu, a.part) }
+  waiting a b xs = record { cpu = a.cpu; kept = keyed_used a xs; more = (row_of file b).items; cut = own_cut a.layout file (a.cpu, a.part) }
 
   row_with : ℕ → List Keyed → Option Cut → Row Keyed
   row_with cpu items cut = record { cpu = cpu; items = items; cut = cut }
@@ -185,25 +184,25 @@ module _ (l : Layout) (file : List ℕ) (until : ℕ) where
 
   waits : (a b : Lane) (xs : List ItemData) → Took a b xs → IsWaiting key_of cpu_of (until + 1) 0 (waiting a b xs)
   waits a b xs t =
-      let none : (row_of l file b).cpu < 0 → ⊥ = λ lt. omega (arith, lt) in
+      let none : (row_of file b).cpu < 0 → ⊥ = λ lt. omega (arith, lt) in
       record {
         own_kept = keyed_own a.cpu (unwrap_or a.cursor.high 0) xs;
-        own_more = All-weaker (λ x. x.cpu ≡ b.cpu) (λ x. x.cpu ≡ a.cpu) (λ x e. e ∙ t.cpu) (row_of l file b).items t.is.own;
+        own_more = All-weaker (λ x. x.cpu ≡ b.cpu) (λ x. x.cpu ≡ a.cpu) (λ x e. e ∙ t.cpu) (row_of file b).items t.is.own;
         rising = keys_rise a.cpu (unwrap_or a.cursor.high 0) xs;
-        more = (parts_later key_of cpu_of (until + 1) 0 (row_of l file b) t.is none t.later).left;
-        cut = subst (λ (o : Option Cut). IfSome o (λ cut. up_to (Some cut) (until + 1) 0 ≡ true)) t.cut (cut_reached key_of cpu_of (until + 1) 0 (row_of l file b) t.is t.later none);
+        more = (parts_later key_of cpu_of (until + 1) 0 (row_of file b) t.is none t.later).left;
+        cut = subst (λ (o : Option Cut). IfSome o (λ cut. up_to (Some cut) (until + 1) 0 ≡ true)) t.cut (cut_reached key_of cpu_of (until + 1) 0 (row_of file b) t.is t.later none);
       }
 
-  row_before : (a b : Lane) (xs : List ItemData) → Took a b xs → row_in (waiting a b xs) ≡ row_of l file a
+  row_before : (a b : Lane) (xs : List ItemData) → Took a b xs → row_in (waiting a b xs) ≡ row_of file a
   unfolding row_with
-  row_before a b xs t = ap (λ (ys : List Keyed). row_with a.cpu ys (own_cut l file (a.cpu, a.part))) (sym t.items)
+  row_before a b xs t = ap (λ (ys : List Keyed). row_with a.cpu ys (own_cut a.layout file (a.cpu, a.part))) (sym t.items)
 
-  row_after : (a b : Lane) (xs : List ItemData) → Took a b xs → row_in (behind key_of cpu_of (until + 1) 0 (waiting a b xs)) ≡ row_of l file b
+  row_after : (a b : Lane) (xs : List ItemData) → Took a b xs → row_in (behind key_of cpu_of (until + 1) 0 (waiting a b xs)) ≡ row_of file b
   unfolding row_with
   row_after a b xs t =
-      ap (λ (ys : List Keyed). row_with a.cpu (ys ++ (row_of l file b).items) (own_cut l file (a.cpu, a.part))) (due_all (keyed_used a xs) t.up_to).1
-      ∙ ap (λ (n : ℕ). row_with n (row_of l file b).items (own_cut l file (a.cpu, a.part))) (sym t.cpu)
-      ∙ ap (row_with b.cpu (row_of l file b).items) (sym t.cut)
+      ap (λ (ys : List Keyed). row_with a.cpu (ys ++ (row_of file b).items) (own_cut a.layout file (a.cpu, a.part))) (due_all (keyed_used a xs) t.up_to).1
+      ∙ ap (λ (n : ℕ). row_with n (row_of file b).items (own_cut a.layout file (a.cpu, a.part))) (sym t.cpu)
+      ∙ ap (row_with b.cpu (row_of file b).items) (sym t.cut)
 
   abbrev AllTook : List Lane → List Lane → List (List ItemData) → Type 0
   AllTook lanes now lists = (i : ℕ) (d : Lane) → i < length lanes → Took (get_or lanes i d) (get_or now i d) (get_or lists i [])
@@ -219,8 +218,8 @@ module _ (l : Layout) (file : List ℕ) (until : ℕ) where
 
   -- Of each lane both rows, what is due, and that it waits.
   record Parts (lanes now : List Lane) (lists : List (List ItemData)) : Type 0 where
-    before : rows_in (waitings lanes now lists) ≡ rows_of l file lanes
-    after : rows_in (map (behind key_of cpu_of (until + 1) 0) (waitings lanes now lists)) ≡ rows_of l file now
+    before : rows_in (waitings lanes now lists) ≡ rows_of file lanes
+    after : rows_in (map (behind key_of cpu_of (until + 1) 0) (waitings lanes now lists)) ≡ rows_of file now
     kept : flat_map (λ w. due key_of cpu_of (until + 1) 0 w.kept) (waitings lanes now lists) ≡ useds lanes lists
     wait : All (IsWaiting key_of cpu_of (until + 1) 0) (waitings lanes now lists)
     events : All (IsEventUpTo until) (useds lanes lists)
@@ -234,8 +233,8 @@ module _ (l : Layout) (file : List ℕ) (until : ℕ) where
       let t : Took a b xs = h zero a (omega arith) in
       let rest = parts_are lanes now lists (omega (arith, long)) (omega (arith, long2)) (took_tail a b xs lanes now lists h) in
       record {
-        before = ap (λ (r : Row Keyed). r ∷ rows_in (waitings lanes now lists)) (row_before a b xs t) ∙ ap (λ (rs : List (Row Keyed)). row_of l file a ∷ rs) rest.before;
-        after = ap (λ (r : Row Keyed). r ∷ rows_in (map (behind key_of cpu_of (until + 1) 0) (waitings lanes now lists))) (row_after a b xs t) ∙ ap (λ (rs : List (Row Keyed)). row_of l file b ∷ rs) rest.after;
+        before = ap (λ (r : Row Keyed). r ∷ rows_in (waitings lanes now lists)) (row_before a b xs t) ∙ ap (λ (rs : List (Row Keyed)). row_of file a ∷ rs) rest.before;
+        after = ap (λ (r : Row Keyed). r ∷ rows_in (map (behind key_of cpu_of (until + 1) 0) (waitings lanes now lists))) (row_after a b xs t) ∙ ap (λ (rs : List (Row Keyed)). row_of file b ∷ rs) rest.after;
         kept = ap (λ (ys : List Keyed). ys ++ flat_map (λ w. due key_of cpu_of (until + 1) 0 w.kept) (waitings lanes now lists)) (due_all (keyed_used a xs) t.up_to).0 ∙ ap (λ (ys : List Keyed). keyed_used a xs ++ ys) rest.kept;
         wait = All-cons (IsWaiting key_of cpu_of (until + 1) 0) (waiting a b xs) (waitings lanes now lists) (waits a b xs t) rest.wait;
         events = All-append (IsEventUpTo until) (keyed_used a xs) (useds lanes lists) t.up_to rest.events;
@@ -243,13 +242,13 @@ module _ (l : Layout) (file : List ℕ) (until : ℕ) where
 
   -- what is to come is what the round takes, and then what is to come without it
   pub round_comes : (lanes now : List Lane) (lists : List (List ItemData)) → CpusRise (parts_of lanes) → length now ≡ length lanes → length lists ≡ length lanes → AllTook lanes now lists
-      → to_come l file lanes ≡ taken_of lanes lists ++ to_come l file now
+      → to_come file lanes ≡ taken_of lanes lists ++ to_come file now
   round_comes lanes now lists rise long long2 h =
       let p = parts_are lanes now lists long long2 h in
       let w = waitings lanes now lists in
       let k = until + 1 in
       ap (coming key_of cpu_of) (sym p.before)
-      ∙ round key_of cpu_of k 0 w (subst (λ (rs : List (Row Keyed)). Rise (cpus rs)) (sym p.before) (rows_rise l file lanes rise)) p.wait
+      ∙ round key_of cpu_of k 0 w (subst (λ (rs : List (Row Keyed)). Rise (cpus rs)) (sym p.before) (rows_rise file lanes rise)) p.wait
       ∙ ap (λ (xs : List Keyed). by_key key_of xs ++ coming key_of cpu_of (rows_in (map (behind key_of cpu_of k 0) w))) p.kept
       ∙ ap (λ (rs : List (Row Keyed)). taken_of lanes lists ++ coming key_of cpu_of rs) p.after
 

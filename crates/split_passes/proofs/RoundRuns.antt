@@ -41,37 +41,42 @@ pub own_append : (c : ℕ) (xs ys : List Keyed) → items_of_cpu c (xs ++ ys) �
 own_append c xs ys = ap (map item_of) (filter-append (λ (y : Keyed). eqb y.cpu c) xs ys) ∙ map-append item_of (with_key cpu_of c xs) (with_key cpu_of c ys)
 
 -- the piece goes on after a round
-runs_round : (l : Layout) (file : List ℕ) (stop : Option Moment) (start : Gauge) (first : List Lane) (e : Tally) (before now : Counts)
-    → CpusRise (parts_of first) → parts_of before.lanes ≡ parts_of first → RoundTaken l stop before now
-    → Runs l file stop start before.gauge first before.lanes before.tallies → Runs l file stop start now.gauge first now.lanes now.tallies
-runs_round l file stop start first e before now rise parts t r =
+runs_round : (file : List ℕ) (stop : Option Moment) (start : Gauge) (first : List Lane) (e : Tally) (before now : Counts)
+    → CpusRise (parts_of first) → parts_of before.lanes ≡ parts_of first → RoundTaken stop before now
+    → Runs file stop start before.gauge first before.lanes before.tallies → Runs file stop start now.gauge first now.lanes now.tallies
+runs_round file stop start first e before now rise parts t r =
     let lanes = before.lanes in
     let taken = taken_of lanes t.lists in
     let lanes_long : length lanes ≡ length first = same_length lanes first parts in
     let rises : CpusRise (parts_of lanes) = subst (λ (ps : List (ℕ × Part)). CpusRise ps) (sym parts) rise in
-    let events : All (IsEventUpTo t.until) taken = round_events l file t.until lanes now.lanes t.lists t.lanes_long t.lists_long each in
-    let come : to_come l file lanes ≡ taken ++ to_come l file now.lanes = round_comes l file t.until lanes now.lanes t.lists rises t.lanes_long t.lists_long each in
-    runs_more l file stop start before.gauge now.gauge first lanes now.lanes before.tallies now.tallies taken come
+    let events : All (IsEventUpTo t.until) taken = round_events file t.until lanes now.lanes t.lists t.lanes_long t.lists_long each in
+    let come : to_come file lanes ≡ taken ++ to_come file now.lanes = round_comes file t.until lanes now.lanes t.lists rises t.lanes_long t.lists_long each in
+    runs_more file stop start before.gauge now.gauge first lanes now.lanes before.tallies now.tallies taken come
     (All-weaker (IsEventUpTo t.until) (λ x. past_end stop x ≡ false) (λ x up. t.inside x.key up.1) taken events)
     (t.takes taken events (taken_long lanes t.lists t.lists_long)) r
     (record {
       stands = λ i d lt. (each i d (omega (arith, lt, t.lanes_long))).stands;
-      came = r.passed.came ∙ ap (λ (ys : List Keyed). r.taken ++ ys) come ∙ sym (append_assoc r.taken taken (to_come l file now.lanes));
+      came = r.passed.came ∙ ap (λ (ys : List Keyed). r.taken ++ ys) come ∙ sym (append_assoc r.taken taken (to_come file now.lanes));
+      layouts = λ j d lt. (used_keeps (get_or t.lists j []) (get_or lanes j d) (get_or now.lanes j d) (t.each j d e (omega (arith, lt, lanes_long))).few.used).layout ∙ r.passed.layouts j d lt;
       lefts = λ j d lt.
           let cpu0 = (get_or first j d).cpu in
           let xs = get_or t.lists j [] in
-          let left : left_of l file (get_or lanes j d) ≡ xs ++ left_of l file (get_or now.lanes j d) = (each j d (omega (arith, lt, lanes_long))).left in
+          let left : left_of file (get_or lanes j d) ≡ xs ++ left_of file (get_or now.lanes j d) = (each j d (omega (arith, lt, lanes_long))).left in
           r.passed.lefts j d lt ∙ ap (λ (ys : List ItemData). items_of_cpu cpu0 r.taken ++ ys) left
-          ∙ sym (append_assoc (items_of_cpu cpu0 r.taken) xs (left_of l file (get_or now.lanes j d)))
-          ∙ ap (λ (ys : List ItemData). ys ++ left_of l file (get_or now.lanes j d)) (sym (own j d lt));
+          ∙ sym (append_assoc (items_of_cpu cpu0 r.taken) xs (left_of file (get_or now.lanes j d)))
+          ∙ ap (λ (ys : List ItemData). ys ++ left_of file (get_or now.lanes j d)) (sym (own j d lt));
     })
     (λ j d c lt.
     let cpu0 = (get_or first j d).cpu in
-    subst (IsTally l (get_or now.tallies j c)) (sym (own j d lt)) ((t.each j d c (omega (arith, lt, lanes_long))).few.tallied (items_of_cpu cpu0 r.taken) (r.tallied j d c lt)))
+    let l0 = (get_or first j d).layout in
+    let few = (t.each j d c (omega (arith, lt, lanes_long))).few in
+    let counts : (ys : List ItemData) → IsTally l0 (get_or before.tallies j c) ys → IsTally l0 (get_or now.tallies j c) (ys ++ get_or t.lists j []) =
+    subst (λ (l : Layout). (ys : List ItemData) → IsTally l (get_or before.tallies j c) ys → IsTally l (get_or now.tallies j c) (ys ++ get_or t.lists j [])) (r.passed.layouts j d lt) few.tallied in
+    subst (IsTally l0 (get_or now.tallies j c)) (sym (own j d lt)) (counts (items_of_cpu cpu0 r.taken) (r.tallied j d c lt)))
   where
-    each : (i : ℕ) (d : Lane) → i < length before.lanes → Took l file t.until (get_or before.lanes i d) (get_or now.lanes i d) (get_or t.lists i [])
-    each i d lt = took l file t.until t.most (get_or before.lanes i d) (get_or now.lanes i d) (get_or before.tallies i e) (get_or now.tallies i e) (get_or t.lists i [])
-        (All-get_or (Stands l file) before.lanes i d lt r.passed.stands) (t.each i d e lt)
+    each : (i : ℕ) (d : Lane) → i < length before.lanes → Took file t.until (get_or before.lanes i d) (get_or now.lanes i d) (get_or t.lists i [])
+    each i d lt = took file t.until t.most (get_or before.lanes i d) (get_or now.lanes i d) (get_or before.tallies i e) (get_or now.tallies i e) (get_or t.lists i [])
+        (All-get_or (Stands file) before.lanes i d lt r.passed.stands) (t.each i d e lt)
 
     own : (j : ℕ) (d : Lane) → j < length first → items_of_cpu (get_or first j d).cpu (r.taken ++ taken_of before.lanes t.lists) ≡ items_of_cpu (get_or first j d).cpu r.taken ++ get_or t.lists j []
     own j d lt =
@@ -86,29 +91,29 @@ runs_round l file stop start first e before now rise parts t r =
         own_append cpu0 r.taken (taken_of lanes t.lists) ∙ ap (λ (ys : List ItemData). items_of_cpu cpu0 r.taken ++ ys) mine
 
 -- or after either
-pub more_runs : (l : Layout) (file : List ℕ) (stop : Option Moment) (start : Gauge) (first : List Lane) (i : ℕ) (d : Lane) (e : Tally) (before now : Counts) (used : Option ℕ)
-    → CpusRise (parts_of first) → parts_of before.lanes ≡ parts_of first → length before.tallies ≡ length first → i < length before.lanes → IsMoreTaken l stop before now i used
-    → Runs l file stop start before.gauge first before.lanes before.tallies → Runs l file stop start now.gauge first now.lanes now.tallies
-more_runs l file stop start first i d e before now None rise parts long lt t r = runs_round l file stop start first e before now rise parts t r
-more_runs l file stop start first i d e before now (Some k) rise parts long lt t r =
-    subst (λ (ts : List Tally). Runs l file stop start now.gauge first now.lanes ts) (sym t.1.1.0)
-    (runs_turn l file stop start before.gauge now.gauge first before.lanes now.lanes before.tallies i d e t.1.0 rise parts long lt (t.1.1.1 d e) r)
+pub more_runs : (file : List ℕ) (stop : Option Moment) (start : Gauge) (first : List Lane) (i : ℕ) (d : Lane) (e : Tally) (before now : Counts) (used : Option ℕ)
+    → CpusRise (parts_of first) → parts_of before.lanes ≡ parts_of first → length before.tallies ≡ length first → i < length before.lanes → IsMoreTaken stop before now i used
+    → Runs file stop start before.gauge first before.lanes before.tallies → Runs file stop start now.gauge first now.lanes now.tallies
+more_runs file stop start first i d e before now None rise parts long lt t r = runs_round file stop start first e before now rise parts t r
+more_runs file stop start first i d e before now (Some k) rise parts long lt t r =
+    subst (λ (ts : List Tally). Runs file stop start now.gauge first now.lanes ts) (sym t.1.1.0)
+    (runs_turn file stop start before.gauge now.gauge first before.lanes now.lanes before.tallies i d e t.1.0 rise parts long lt (t.1.1.1 d e) r)
 
 -- HOW FAR THE LANES GO
 
 -- The lanes go on in their sub-buffers, and the tallies of those that are over stay.
-pub record MoreKept (l : Layout) (nexts : List SlotKey) (before now : Counts) (used : Option ℕ) : Type 0 where
+pub record MoreKept (nexts : List SlotKey) (before now : Counts) (used : Option ℕ) : Type 0 where
   pub parts : parts_of now.lanes ≡ parts_of before.lanes
   pub long : length now.tallies ≡ length before.tallies
-  pub in_step : IsInStep l now.lanes nexts used
+  pub in_step : IsInStep now.lanes nexts used
   pub advance : (j : ℕ) (d : Lane) → j < length before.lanes → Advances (get_or before.lanes j d) (get_or now.lanes j d)
   pub over : (j : ℕ) (d : Lane) (t : Tally) → j < length before.lanes → IsOver (get_or before.lanes j d).cursor.state → get_or now.tallies j t ≡ get_or before.tallies j t
-  pub unread : (len : ℕ) → all_unread l len now.lanes ≡ all_unread l len before.lanes
-  pub most : sum_by (most_left l) now.lanes ≤ sum_by (most_left l) before.lanes
+  pub unread : (len : ℕ) → all_unread len now.lanes ≡ all_unread len before.lanes
+  pub most : sum_by most_left now.lanes ≤ sum_by most_left before.lanes
 
-turn_kept : (l : Layout) (stop : Option Moment) (nexts : List SlotKey) (i : ℕ) (d : Lane) (e : Tally) (before now : Counts) (k : ℕ) → IsInStepBut l before.lanes nexts i
-    → (get_or before.lanes i d).cursor.state ≡ Held → IsMoreTaken l stop before now i (Some k) → MoreKept l nexts before now (Some k)
-turn_kept l stop nexts i d e before now k but held t =
+turn_kept : (stop : Option Moment) (nexts : List SlotKey) (i : ℕ) (d : Lane) (e : Tally) (before now : Counts) (k : ℕ) → IsInStepBut before.lanes nexts i
+    → (get_or before.lanes i d).cursor.state ≡ Held → IsMoreTaken stop before now i (Some k) → MoreKept nexts before now (Some k)
+turn_kept stop nexts i d e before now k but held t =
     let lanes = before.lanes in
     let a = get_or lanes i d in
     let turn = t.1.1.1 d e in
@@ -119,16 +124,16 @@ turn_kept l stop nexts i d e before now k but held t =
     record {
       parts = ap parts_of is ∙ set_parts lanes i d b but.inside turn.keeps.cpu turn.keeps.part;
       long = ap length t.1.1.0 ∙ length-set before.tallies i t.1.0;
-      in_step = subst (λ (n : ℕ). IsInStepBut l now.lanes nexts n) (sym t.0) (subst (λ (ks : List Lane). IsInStepBut l ks nexts i) (sym is) (in_step_again l lanes nexts i b but));
+      in_step = subst (λ (n : ℕ). IsInStepBut now.lanes nexts n) (sym t.0) (subst (λ (ks : List Lane). IsInStepBut ks nexts i) (sym is) (in_step_again lanes nexts i b but));
       advance = subst (λ (ks : List Lane). (j : ℕ) (c : Lane) → j < length lanes → Advances (get_or lanes j c) (get_or ks j c)) (sym is)
           (advances_more lanes lanes i d b refl but.inside (kept_advances a b held turn.keeps) here);
       over = subst (λ (ts : List Tally). (j : ℕ) (c : Lane) (u : Tally) → j < length lanes → IsOver (get_or lanes j c).cursor.state → get_or ts j u ≡ get_or before.tallies j u) (sym t.1.1.0)
           (over_more lanes lanes before.tallies before.tallies i d t.1.0 but.inside held here (λ j c u lt over. refl));
-      unread = λ len. ap (all_unread l len) is ∙ set_unread l len lanes i d b but.inside (same_unread l len a b turn.keeps.part turn.keeps.state turn.keeps.next);
+      unread = λ len. ap (all_unread len) is ∙ set_unread len lanes i d b but.inside (same_unread len a b turn.keeps.layout turn.keeps.part turn.keeps.state turn.keeps.next);
       most =
-          let less : sum_by (most_left l) later < sum_by (most_left l) lanes + 1 =
-          no_more l (sum_by (most_left l) lanes + 1) lanes i d b but.inside (kept_most l a b turn.keeps turn.forward) (omega arith) in
-          subst (λ (ks : List Lane). sum_by (most_left l) ks ≤ sum_by (most_left l) lanes) (sym is) (omega (arith, less));
+          let less : sum_by most_left later < sum_by most_left lanes + 1 =
+          no_more (sum_by most_left lanes + 1) lanes i d b but.inside (kept_most a b turn.keeps turn.forward) (omega arith) in
+          subst (λ (ks : List Lane). sum_by most_left ks ≤ sum_by most_left lanes) (sym is) (omega (arith, less));
     }
 
 -- each of several lanes went on in its sub-buffer
@@ -142,53 +147,53 @@ AllGoOn lanes now = (i : ℕ) (d : Lane) → i < length lanes → GoesOn (get_or
 on_tail : (a b : Lane) (lanes now : List Lane) → AllGoOn (a ∷ lanes) (b ∷ now) → AllGoOn lanes now
 on_tail a b lanes now h i d lt = h (suc i) d (omega (arith, lt))
 
-record TogetherOn (l : Layout) (lanes now : List Lane) : Type 0 where
+record TogetherOn (lanes now : List Lane) : Type 0 where
   parts : parts_of now ≡ parts_of lanes
-  unread : (len : ℕ) → all_unread l len now ≡ all_unread l len lanes
-  most : sum_by (most_left l) now ≤ sum_by (most_left l) lanes
+  unread : (len : ℕ) → all_unread len now ≡ all_unread len lanes
+  most : sum_by most_left now ≤ sum_by most_left lanes
 
-together_on : (l : Layout) (lanes now : List Lane) → length now ≡ length lanes → AllGoOn lanes now → TogetherOn l lanes now
-together_on l [] [] long h = record { parts = refl; unread = λ len. refl; most = omega arith }
-together_on l [] (b ∷ now) long h = absurd (omega (arith, long))
-together_on l (a ∷ lanes) [] long h = absurd (omega (arith, long))
-together_on l (a ∷ lanes) (b ∷ now) long h =
+together_on : (lanes now : List Lane) → length now ≡ length lanes → AllGoOn lanes now → TogetherOn lanes now
+together_on [] [] long h = record { parts = refl; unread = λ len. refl; most = omega arith }
+together_on [] (b ∷ now) long h = absurd (omega (arith, long))
+together_on (a ∷ lanes) [] long h = absurd (omega (arith, long))
+together_on (a ∷ lanes) (b ∷ now) long h =
     let here : GoesOn a b = h zero a (omega arith) in
-    let rest = together_on l lanes now (omega (arith, long)) (on_tail a b lanes now h) in
+    let rest = together_on lanes now (omega (arith, long)) (on_tail a b lanes now h) in
     let k = here.keeps in
     record {
       parts = ap (λ (p : ℕ × Part). p ∷ parts_of now) (cc (k.cpu, k.part)) ∙ ap (λ (ps : List (ℕ × Part)). (a.cpu, a.part) ∷ ps) rest.parts;
-      unread = λ len. sum_by-cons (unread l len) b now ∙ ap (λ (n : ℕ). n + all_unread l len now) (same_unread l len a b k.part k.state k.next) ∙ ap (λ (n : ℕ). unread l len a + n) (rest.unread len)
-          ∙ sym (sum_by-cons (unread l len) a lanes);
-      most = omega (arith, kept_most l a b k here.at, rest.most, sum_by-cons (most_left l) a lanes, sum_by-cons (most_left l) b now);
+      unread = λ len. sum_by-cons (unread len) b now ∙ ap (λ (n : ℕ). n + all_unread len now) (same_unread len a b k.layout k.part k.state k.next) ∙ ap (λ (n : ℕ). unread len a + n) (rest.unread len)
+          ∙ sym (sum_by-cons (unread len) a lanes);
+      most = omega (arith, kept_most a b k here.at, rest.most, sum_by-cons most_left a lanes, sum_by-cons most_left b now);
     }
 
-used_goes : (l : Layout) (xs : List ItemData) (a b : Lane) → IsUsed l xs a b → GoesOn a b
-used_goes l xs a b u = record { keeps = used_keeps l xs a b u; at = omega (arith, used_at l xs a b u) }
+used_goes : (xs : List ItemData) (a b : Lane) → IsUsed xs a b → GoesOn a b
+used_goes xs a b u = record { keeps = used_keeps xs a b u; at = omega (arith, used_at xs a b u) }
 
-used_advances : (l : Layout) (xs : List ItemData) (a b : Lane) → IsUsed l xs a b → Advances a b
-used_advances l xs a b (inl u) = subst (λ (c : Lane). Advances a c) (sym u.1) (advances_not a)
-used_advances l xs a b (inr u) = kept_advances a b (some_held l a (omega (arith, u.0, ap length u.1.left, length-append xs (held_left l b)))) u.1.page
+used_advances : (xs : List ItemData) (a b : Lane) → IsUsed xs a b → Advances a b
+used_advances xs a b (inl u) = subst (λ (c : Lane). Advances a c) (sym u.1) (advances_not a)
+used_advances xs a b (inr u) = kept_advances a b (some_held a (omega (arith, u.0, ap length u.1.left, length-append xs (held_left b)))) u.1.page
 
 not_over : (a : Lane) → IsOver a.cursor.state → a.cursor.state ≡ Held → ⊥
 not_over a over held = let never : IsOver Held = subst IsOver held over in absurd never
 
-round_kept : (l : Layout) (stop : Option Moment) (nexts : List SlotKey) (e : Tally) (before now : Counts) → RoundTaken l stop before now → MoreKept l nexts before now None
-round_kept l stop nexts e before now t =
-    let all = together_on l before.lanes now.lanes t.lanes_long
-    (λ i d lt. used_goes l (get_or t.lists i []) (get_or before.lanes i d) (get_or now.lanes i d) (t.each i d e lt).few.used) in
+round_kept : (stop : Option Moment) (nexts : List SlotKey) (e : Tally) (before now : Counts) → RoundTaken stop before now → MoreKept nexts before now None
+round_kept stop nexts e before now t =
+    let all = together_on before.lanes now.lanes t.lanes_long
+    (λ i d lt. used_goes (get_or t.lists i []) (get_or before.lanes i d) (get_or now.lanes i d) (t.each i d e lt).few.used) in
     record {
       parts = all.parts;
       long = t.tallies_long;
       in_step = tt;
-      advance = λ j d lt. used_advances l (get_or t.lists j []) (get_or before.lanes j d) (get_or now.lanes j d) (t.each j d e lt).few.used;
+      advance = λ j d lt. used_advances (get_or t.lists j []) (get_or before.lanes j d) (get_or now.lanes j d) (t.each j d e lt).few.used;
       over = λ j d u lt over.
           let h = (t.each j d u lt).few in
-          h.idle (none_left l (get_or t.lists j []) (get_or before.lanes j d) (get_or now.lanes j d) h.used (not_over (get_or before.lanes j d) over)).0;
+          h.idle (none_left (get_or t.lists j []) (get_or before.lanes j d) (get_or now.lanes j d) h.used (not_over (get_or before.lanes j d) over)).0;
       unread = all.unread;
       most = all.most;
     }
 
-pub more_kept : (l : Layout) (stop : Option Moment) (nexts : List SlotKey) (i : ℕ) (d : Lane) (e : Tally) (before now : Counts) (used : Option ℕ) → IsInStepBut l before.lanes nexts i
-    → (get_or before.lanes i d).cursor.state ≡ Held → IsMoreTaken l stop before now i used → MoreKept l nexts before now used
-more_kept l stop nexts i d e before now None but held t = round_kept l stop nexts e before now t
-more_kept l stop nexts i d e before now (Some k) but held t = turn_kept l stop nexts i d e before now k but held t
+pub more_kept : (stop : Option Moment) (nexts : List SlotKey) (i : ℕ) (d : Lane) (e : Tally) (before now : Counts) (used : Option ℕ) → IsInStepBut before.lanes nexts i
+    → (get_or before.lanes i d).cursor.state ≡ Held → IsMoreTaken stop before now i used → MoreKept nexts before now used
+more_kept stop nexts i d e before now None but held t = round_kept stop nexts e before now t
+more_kept stop nexts i d e before now (Some k) but held t = turn_kept stop nexts i d e before now k but held t

@@ -5,7 +5,6 @@ use Rattle.std.proofs.lemmas.Bool.{cases_eq}
 use Rattle.std.proofs.lemmas.List.{get_or-set_same, get_or-set_other, get_or_append_left, get_or_push, get_or_default, length-set, length-append}
 use Rattle.std.proofs.lemmas.List.Sums.{sum_by-append}
 use Rattle.std.proofs.Math.Nat.{mul-div-le, mul-le-mul_left}
-use Rattle.trace_base.specs.declared.layout.Layout.{Layout}
 use Rattle.subpage.specs.ItemData.{ItemData}
 use Rattle.page_pool.specs.declared.lane.Lane.{Lane}
 use Rattle.word_values.specs.declared.moment.Moment.{Moment}
@@ -25,27 +24,27 @@ shares_fit lanes most events le =
     omega (arith, some, all)
 
 -- what was found at the place of one lane stands at that of the lane with this number
-pub found_of : (l : Layout) (lanes : List Lane) (i lane : ℕ) (d a : Lane) (kept found : Option FoundRun) → IfSome found (λ run. (i ≡ lane) × (kept ≡ Some run)) → ((e : Lane) → IfSome kept (HasRun l (get_or lanes lane e)))
-    → a ≡ get_or lanes i d → IfSome found (HasRun l a)
-found_of l lanes i lane d a kept None is has same = tt
-found_of l lanes i lane d a kept (Some run) is has same =
-    let there : HasRun l (get_or lanes lane d) run = subst (λ (o : Option FoundRun). IfSome o (HasRun l (get_or lanes lane d))) is.1 (has d) in
-    subst (λ (b : Lane). HasRun l b run) (sym (same ∙ ap (λ (k : ℕ). get_or lanes k d) is.0)) there
+pub found_of : (lanes : List Lane) (i lane : ℕ) (d a : Lane) (kept found : Option FoundRun) → IfSome found (λ run. (i ≡ lane) × (kept ≡ Some run)) → ((e : Lane) → IfSome kept (HasRun (get_or lanes lane e)))
+    → a ≡ get_or lanes i d → IfSome found (HasRun a)
+found_of lanes i lane d a kept None is has same = tt
+found_of lanes i lane d a kept (Some run) is has same =
+    let there : HasRun (get_or lanes lane d) run = subst (λ (o : Option FoundRun). IfSome o (HasRun (get_or lanes lane d))) is.1 (has d) in
+    subst (λ (b : Lane). HasRun b run) (sym (same ∙ ap (λ (k : ℕ). get_or lanes k d) is.0)) there
 
 -- The first few lanes were gone through, the others are as they were.
-pub record RoundTo (l : Layout) (until most i : ℕ) (lanes now : List Lane) (tallies tallies_now : List Tally) (count : ℕ) : Type 0 where
+pub record RoundTo (until most i : ℕ) (lanes now : List Lane) (tallies tallies_now : List Tally) (count : ℕ) : Type 0 where
   pub lists : List (List ItemData)
   pub lanes_long : length now ≡ length lanes
   pub tallies_long : length tallies_now ≡ length tallies
   pub lists_long : length lists ≡ i
-  pub done : (j : ℕ) (d : Lane) (t : Tally) → j < i → TakesUpTo l until most (get_or lanes j d) (get_or now j d) (get_or tallies j t) (get_or tallies_now j t) (get_or lists j [])
+  pub done : (j : ℕ) (d : Lane) (t : Tally) → j < i → TakesUpTo until most (get_or lanes j d) (get_or now j d) (get_or tallies j t) (get_or tallies_now j t) (get_or lists j [])
   pub rest : (j : ℕ) (d : Lane) → i ≤ j → get_or now j d ≡ get_or lanes j d
   pub rest_tallies : (j : ℕ) (t : Tally) → i ≤ j → get_or tallies_now j t ≡ get_or tallies j t
   pub counted : count ≡ sum_by length lists
   pub few : count ≤ i * most
 
-pub round_none : (l : Layout) (until most : ℕ) (lanes : List Lane) (tallies : List Tally) → RoundTo l until most 0 lanes lanes tallies tallies 0
-round_none l until most lanes tallies = record {
+pub round_none : (until most : ℕ) (lanes : List Lane) (tallies : List Tally) → RoundTo until most 0 lanes lanes tallies tallies 0
+round_none until most lanes tallies = record {
   lists = [];
   lanes_long = refl;
   tallies_long = refl;
@@ -57,10 +56,10 @@ round_none l until most lanes tallies = record {
   few = omega arith;
 }
 
-pub round_more : (l : Layout) (until most i : ℕ) (lanes now : List Lane) (tallies tallies_now : List Tally) (count more : ℕ) (d b : Lane) (t u : Tally) (xs : List ItemData)
-    → length tallies ≡ length lanes → i < length lanes → length xs ≡ more → RoundTo l until most i lanes now tallies tallies_now count
-    → TakesUpTo l until most (get_or now i d) b (get_or tallies_now i t) u xs → RoundTo l until most (i + 1) lanes (set now i b) tallies (set tallies_now i u) (count + more)
-round_more l until most i lanes now tallies tallies_now count more d b t u xs long lt is r took =
+pub round_more : (until most i : ℕ) (lanes now : List Lane) (tallies tallies_now : List Tally) (count more : ℕ) (d b : Lane) (t u : Tally) (xs : List ItemData)
+    → length tallies ≡ length lanes → i < length lanes → length xs ≡ more → RoundTo until most i lanes now tallies tallies_now count
+    → TakesUpTo until most (get_or now i d) b (get_or tallies_now i t) u xs → RoundTo until most (i + 1) lanes (set now i b) tallies (set tallies_now i u) (count + more)
+round_more until most i lanes now tallies tallies_now count more d b t u xs long lt is r took =
     let inside : i < length now = omega (arith, lt, r.lanes_long) in
     let inside_tallies : i < length tallies_now = omega (arith, lt, long, r.tallies_long) in
     record {
@@ -75,16 +74,16 @@ round_more l until most i lanes now tallies tallies_now count more d b t u xs lo
             let list : get_or (r.lists ++ xs ∷ []) j [] ≡ xs = get_or_push r.lists xs [] j (omega (arith, r.lists_long, same)) in
             let old : get_or now i d ≡ get_or lanes j e = get_or_default now i d e inside ∙ r.rest i e (omega arith) ∙ ap (λ (k : ℕ). get_or lanes k e) (sym same) in
             let old_tally : get_or tallies_now i t ≡ get_or tallies j v = get_or_default tallies_now i t v inside_tallies ∙ r.rest_tallies i v (omega arith) ∙ ap (λ (k : ℕ). get_or tallies k v) (sym same) in
-            subst (λ (zs : List ItemData). TakesUpTo l until most (get_or lanes j e) (get_or (set now i b) j e) (get_or tallies j v) (get_or (set tallies_now i u) j v) zs) (sym list)
-            (subst (λ (c : Tally). TakesUpTo l until most (get_or lanes j e) (get_or (set now i b) j e) (get_or tallies j v) c xs) (sym tally)
-            (subst (λ (c : Tally). TakesUpTo l until most (get_or lanes j e) (get_or (set now i b) j e) c u xs) old_tally
-            (subst (λ (c : Lane). TakesUpTo l until most (get_or lanes j e) c (get_or tallies_now i t) u xs) (sym lane)
-            (subst (λ (c : Lane). TakesUpTo l until most c b (get_or tallies_now i t) u xs) old took))))
+            subst (λ (zs : List ItemData). TakesUpTo until most (get_or lanes j e) (get_or (set now i b) j e) (get_or tallies j v) (get_or (set tallies_now i u) j v) zs) (sym list)
+            (subst (λ (c : Tally). TakesUpTo until most (get_or lanes j e) (get_or (set now i b) j e) (get_or tallies j v) c xs) (sym tally)
+            (subst (λ (c : Tally). TakesUpTo until most (get_or lanes j e) (get_or (set now i b) j e) c u xs) old_tally
+            (subst (λ (c : Lane). TakesUpTo until most (get_or lanes j e) c (get_or tallies_now i t) u xs) (sym lane)
+            (subst (λ (c : Lane). TakesUpTo until most c b (get_or tallies_now i t) u xs) old took))))
         | inr other ↦
             let before : j < i = omega (arith, less, other) in
-            subst (λ (zs : List ItemData). TakesUpTo l until most (get_or lanes j e) (get_or (set now i b) j e) (get_or tallies j v) (get_or (set tallies_now i u) j v) zs) (sym (get_or_append_left r.lists (xs ∷ []) [] j (omega (arith, before, r.lists_long))))
-            (subst (λ (c : Tally). TakesUpTo l until most (get_or lanes j e) (get_or (set now i b) j e) (get_or tallies j v) c (get_or r.lists j [])) (sym (get_or-set_other tallies_now i j u v other))
-            (subst (λ (c : Lane). TakesUpTo l until most (get_or lanes j e) c (get_or tallies j v) (get_or tallies_now j v) (get_or r.lists j [])) (sym (get_or-set_other now i j b e other)) (r.done j e v before)))
+            subst (λ (zs : List ItemData). TakesUpTo until most (get_or lanes j e) (get_or (set now i b) j e) (get_or tallies j v) (get_or (set tallies_now i u) j v) zs) (sym (get_or_append_left r.lists (xs ∷ []) [] j (omega (arith, before, r.lists_long))))
+            (subst (λ (c : Tally). TakesUpTo until most (get_or lanes j e) (get_or (set now i b) j e) (get_or tallies j v) c (get_or r.lists j [])) (sym (get_or-set_other tallies_now i j u v other))
+            (subst (λ (c : Lane). TakesUpTo until most (get_or lanes j e) c (get_or tallies j v) (get_or tallies_now j v) (get_or r.lists j [])) (sym (get_or-set_other now i j b e other)) (r.done j e v before)))
       ];
       rest = λ j e le. get_or-set_other now i j b e (λ same. omega (arith, le, same)) ∙ r.rest j e (omega (arith, le));
       rest_tallies = λ j v le. get_or-set_other tallies_now i j u v (λ same. omega (arith, le, same)) ∙ r.rest_tallies j v (omega (arith, le));
@@ -96,11 +95,11 @@ round_more l until most i lanes now tallies tallies_now count more d b t u xs lo
     one zs = omega arith
 
 -- All lanes were, and the number is that of the items of all lists.
-pub round_done : (l : Layout) (stop : Option Moment) (gauge gauge_now : Gauge) (lanes now : List Lane) (tallies tallies_now : List Tally) (i count : ℕ) (reach : Reach)
-    → i ≡ length lanes → IsReach l stop gauge lanes reach → RoundTo l reach.until reach.most i lanes now tallies tallies_now count → gauge_now ≡ after_events gauge count
-    → (taken : RoundTaken l stop (record { gauge = gauge; lanes = lanes; tallies = tallies }) (record { gauge = gauge_now; lanes = now; tallies = tallies_now }))
+pub round_done : (stop : Option Moment) (gauge gauge_now : Gauge) (lanes now : List Lane) (tallies tallies_now : List Tally) (i count : ℕ) (reach : Reach)
+    → i ≡ length lanes → IsReach stop gauge lanes reach → RoundTo reach.until reach.most i lanes now tallies tallies_now count → gauge_now ≡ after_events gauge count
+    → (taken : RoundTaken stop (record { gauge = gauge; lanes = lanes; tallies = tallies }) (record { gauge = gauge_now; lanes = now; tallies = tallies_now }))
     × (count ≡ sum_by length taken.lists)
-round_done l stop gauge gauge_now lanes now tallies tallies_now i count reach all reaches r is = (
+round_done stop gauge gauge_now lanes now tallies tallies_now i count reach all reaches r is = (
   record {
     until = reach.until;
     most = reach.most;

@@ -1,6 +1,7 @@
 -- Packing that stops at a lane.
 use Rattle.std.proofs.Common.{◌≡◌, ℕ, ◌+◌, ◌-◌, ◌<◌, ◌≤◌, List, [], ◌∷◌, length, get_or, set, take, drop, sym, ap, ◌∙◌, arith}
 use Rattle.std.proofs.lemmas.List.{drop-set-lt, ext_get_or, get_or-drop, get_or-map, get_or_default, length-drop, length-map, length-set, take-map, take-set}
+use Rattle.trace_base.specs.declared.layout.Layout.{Layout}
 use Rattle.trace_base.specs.declared.part.Part.{Part}
 use Rattle.subpage.specs.CutPlaces.{place_at}
 use Rattle.subpage.specs.declared.cut_place.CutPlace.{CutPlace}
@@ -11,8 +12,8 @@ use Rattle.time_merge.specs.declared.ending.End.TheVariants as code
 use Rattle.split_passes.specs.AllAgain.{StoppedAt, TellsHeld, TellsStop}
 use Rattle.split_passes.specs.Reads.{numbers_of}
 
-abbrev numbers : Lane → Part × LaneState × ℕ
-numbers lane = (lane.part, lane.cursor.state, lane.cursor.next)
+abbrev numbers : Lane → Layout × Part × LaneState × ℕ
+numbers lane = (lane.layout, lane.part, lane.cursor.state, lane.cursor.next)
 
 front_numbers : (first lanes : List Lane) (i : ℕ) → numbers_of lanes ≡ numbers_of first → numbers_of (take i lanes) ≡ numbers_of (take i first)
 front_numbers first lanes i same = sym (take-map numbers i lanes) ∙ ap (take i) same ∙ take-map numbers i first

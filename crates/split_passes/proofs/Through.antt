@@ -1,6 +1,5 @@
 -- Lanes that go through items, and then load more.
 use Rattle.std.proofs.Common.{◌≡◌, ℕ, ◌-◌, ◌<◌, ◌≤◌, List, length, get_or, ◌∙◌}
-use Rattle.trace_base.specs.declared.layout.Layout.{Layout}
 use Rattle.trace_outside.specs.declared.outside.File as file
 use Rattle.trace_outside.specs.Causes.{raised}
 use Rattle.trace_outside.specs.Keeping.{KeepsFile}
@@ -15,14 +14,13 @@ use Rattle.time_merge.proofs.PartReads.{loading_reads}
 use Rattle.split_passes.specs.Through.{GoThrough}
 use Rattle.split_passes.proofs.Going.{advances_on}
 
-pub through_loaded : {F : Type 0} {f : file.Ghosts F} (l : Layout) (a b c : F) (first lanes now : List Lane) → parts_of lanes ≡ parts_of first
+pub through_loaded : {F : Type 0} {f : file.Ghosts F} (a b c : F) (first lanes now : List Lane) → parts_of lanes ≡ parts_of first
     → ((j : ℕ) (d : Lane) → j < length first → Advances (get_or first j d) (get_or lanes j d))
-    → f.reads b ≤ raised (f.reads a) (all_unread l (f.size a) first - all_unread l (f.size a) lanes) → all_unread l (f.size a) lanes ≤ all_unread l (f.size a) first → KeepsFile f a b
-    → LoadsLanes f l b c lanes now → GoThrough f l a c first now
-through_loaded {f} l a b c first lanes now parts advance reads unread keeps loads =
-    let loaded = loading_reads l (f.size a) (f.size b) lanes now _ _ _ _ keeps.size reads unread loads.reads loads.unread in
+    → f.reads b ≤ raised (f.reads a) (all_unread (f.size a) first - all_unread (f.size a) lanes) → all_unread (f.size a) lanes ≤ all_unread (f.size a) first → KeepsFile f a b
+    → LoadsLanes f b c lanes now → GoThrough f a c first now
+through_loaded {f} a b c first lanes now parts advance reads unread keeps loads =
+    let loaded = loading_reads (f.size a) (f.size b) lanes now _ _ _ _ keeps.size reads unread loads.reads loads.unread in
     record {
-      in_order = loads.in_order;
       parts = loads.parts ∙ parts;
       advance = advances_on first lanes now (same_length lanes first parts) advance loads.advance;
       reads = loaded.0;

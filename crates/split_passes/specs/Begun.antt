@@ -13,8 +13,8 @@ abbrev pub AreNoted : List Lane → List Place → Type 0
 AreNoted lanes fronts =
     (i : ℕ) (d : Lane) (p : Place) → i < length lanes → slice_index_or fronts i p ≡ place_in (slice_index_or lanes i d)
 
--- They are ready, the places where they stand were noted, and their tallies count nothing.
-pub record IsBegun (layout : Layout) (list : ListSeen) : Type 0 where
-  pub ready : All (IsReady layout) list.all
+-- They are ready, the places where they stand were noted, and their tallies count nothing, by any layout.
+pub record IsBegun (list : ListSeen) : Type 0 where
+  pub ready : All IsReady list.all
   pub noted : AreNoted list.all list.fronts
-  pub none : All (λ tally. IsTally layout tally []) list.tallies
+  pub none : (layout : Layout) → All (λ tally. IsTally layout tally []) list.tallies

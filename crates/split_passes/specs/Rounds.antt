@@ -37,75 +37,75 @@ abbrev pub IsEventItem : ItemData → Type 0
 IsEventItem x = event_item x ≡ true
 
 -- An item with a later key is held, after at most so many others, all of them events.
-pub record HoldsLater (layout : Layout) (until most : ℕ) (lane : Lane) : Type 0 where
+pub record HoldsLater (until most : ℕ) (lane : Lane) : Type 0 where
   pub front : List ItemData
   pub item : ItemData
   pub rest : List ItemData
-  pub held : held_left layout lane ≡ front ++ item ∷ rest
+  pub held : held_left lane ≡ front ++ item ∷ rest
   pub few : length front ≤ most
   pub events : All IsEventItem front
   pub later : until < key_behind lane.cursor.high item
 
 -- what comes next of a lane once its items up to this key are taken is known without a look at its next sub-buffer
-abbrev pub ReachesPastIn : LaneState → Layout → ℕ → ℕ → Lane → Type 0
-ReachesPastIn Fresh layout until most lane = ⊥
-ReachesPastIn Held layout until most lane = HoldsLater layout until most lane
-ReachesPastIn Ended layout until most lane = Unit {0}
-ReachesPastIn Malformed layout until most lane = NotBefore (until + 2) (next_of layout lane)
+abbrev pub ReachesPastIn : LaneState → ℕ → ℕ → Lane → Type 0
+ReachesPastIn Fresh until most lane = ⊥
+ReachesPastIn Held until most lane = HoldsLater until most lane
+ReachesPastIn Ended until most lane = Unit {0}
+ReachesPastIn Malformed until most lane = NotBefore (until + 2) (next_of lane)
 
-abbrev pub ReachesPast : Layout → ℕ → ℕ → Lane → Type 0
-ReachesPast layout until most lane = ReachesPastIn lane.cursor.state layout until most lane
+abbrev pub ReachesPast : ℕ → ℕ → Lane → Type 0
+ReachesPast until most lane = ReachesPastIn lane.cursor.state until most lane
 
 -- WHAT IS TAKEN
 
 -- items of a lane were used up, maybe none
-abbrev pub IsUsed : Layout → List ItemData → Lane → Lane → Type 0
-IsUsed layout xs before now = ((xs ≡ []) × (now ≡ before)) ⊎ ((0 < length xs) × IsSteppedOver layout xs before now)
+abbrev pub IsUsed : List ItemData → Lane → Lane → Type 0
+IsUsed xs before now = ((xs ≡ []) × (now ≡ before)) ⊎ ((0 < length xs) × IsSteppedOver xs before now)
 
 -- whether the next item of a lane has a key up to this one
-abbrev pub ComesBy : Layout → ℕ → Lane → Bool → Type 0
-ComesBy layout until lane true = (x : Keyed) × ((first_of (keyed_held layout lane) ≡ Some x) × (x.key ≤ until))
-ComesBy layout until lane false = (x : Keyed) → first_of (keyed_held layout lane) ≡ Some x → until < x.key
+abbrev pub ComesBy : ℕ → Lane → Bool → Type 0
+ComesBy until lane true = (x : Keyed) × ((first_of (keyed_held lane) ≡ Some x) × (x.key ≤ until))
+ComesBy until lane false = (x : Keyed) → first_of (keyed_held lane) ≡ Some x → until < x.key
 
 -- The next item of a lane was taken, and the tally counts it.
-pub record HeadTaken (layout : Layout) (lane now : Lane) (tally tally_now : Tally) : Type 0 where
-  pub stepped : IsStepped layout lane now
-  pub tallied : (ys : List ItemData) → IsTally layout tally ys → IsTally layout tally_now (ys ++ stepped.first ∷ [])
+pub record HeadTaken (lane now : Lane) (tally tally_now : Tally) : Type 0 where
+  pub stepped : IsStepped lane now
+  pub tallied : (ys : List ItemData) → IsTally lane.layout tally ys → IsTally lane.layout tally_now (ys ++ stepped.first ∷ [])
 
 -- Items of a lane with keys up to this one were taken, and the tally counts them.
-pub record TakesFew (layout : Layout) (until : ℕ) (lane now : Lane) (tally tally_now : Tally) (xs : List ItemData) : Type 0 where
-  pub used : IsUsed layout xs lane now
+pub record TakesFew (until : ℕ) (lane now : Lane) (tally tally_now : Tally) (xs : List ItemData) : Type 0 where
+  pub used : IsUsed xs lane now
   pub up_to : All (λ x. x.key ≤ until) (keyed_used lane xs)
-  pub tallied : (ys : List ItemData) → IsTally layout tally ys → IsTally layout tally_now (ys ++ xs)
+  pub tallied : (ys : List ItemData) → IsTally lane.layout tally ys → IsTally lane.layout tally_now (ys ++ xs)
   pub idle : xs ≡ [] → tally_now ≡ tally
 
 -- at least one
-abbrev pub IsSomeTaken : Layout → ℕ → Lane → Lane → Tally → Tally → Type 0
-IsSomeTaken layout until lane now tally tally_now =
-    (xs : List ItemData) × ((0 < length xs) × TakesFew layout until lane now tally tally_now xs)
+abbrev pub IsSomeTaken : ℕ → Lane → Lane → Tally → Tally → Type 0
+IsSomeTaken until lane now tally tally_now =
+    (xs : List ItemData) × ((0 < length xs) × TakesFew until lane now tally tally_now xs)
 
 -- All of them were taken, at most so many events, and what comes next of the lane is later.
-pub record TakesUpTo (layout : Layout) (until most : ℕ) (lane now : Lane) (tally tally_now : Tally) (xs : List ItemData) : Type 0 where
-  pub few : TakesFew layout until lane now tally tally_now xs
+pub record TakesUpTo (until most : ℕ) (lane now : Lane) (tally tally_now : Tally) (xs : List ItemData) : Type 0 where
+  pub few : TakesFew until lane now tally tally_now xs
   pub events : All IsEventItem xs
   pub long : length xs ≤ most
-  pub ready : IsReady layout now
-  pub later : NotBefore (until + 2) (next_of layout now)
+  pub ready : IsReady now
+  pub later : NotBefore (until + 2) (next_of now)
 
-abbrev pub IsLaneTaken : Layout → ℕ → ℕ → Lane → Lane → Tally → Tally → ℕ → Type 0
-IsLaneTaken layout until most lane now tally tally_now count =
-    (xs : List ItemData) × (TakesUpTo layout until most lane now tally tally_now xs × (length xs ≡ count))
+abbrev pub IsLaneTaken : ℕ → ℕ → Lane → Lane → Tally → Tally → ℕ → Type 0
+IsLaneTaken until most lane now tally tally_now count =
+    (xs : List ItemData) × (TakesUpTo until most lane now tally tally_now xs × (length xs ≡ count))
 
 -- ALL LANES
 
 -- How far a round goes: each lane holds all its items up to there, the piece takes these whatever they are, and none is past the end.
-pub record IsReach (layout : Layout) (stop : Option Moment) (gauge : Gauge) (lanes : List Lane) (reach : Reach) : Type 0 where
-  pub reaches : (i : ℕ) (d : Lane) → i < length lanes → ReachesPast layout reach.until reach.most (slice_index_or lanes i d)
+pub record IsReach (stop : Option Moment) (gauge : Gauge) (lanes : List Lane) (reach : Reach) : Type 0 where
+  pub reaches : (i : ℕ) (d : Lane) → i < length lanes → ReachesPast reach.until reach.most (slice_index_or lanes i d)
   pub takes : (xs : List Keyed) → All (IsEventUpTo reach.until) xs → length xs ≤ length lanes * reach.most
       → TakesItems gauge (after_events gauge (length xs)) xs
   pub inside : (key : ℕ) → key ≤ reach.until → past_key stop key ≡ false
   pub few : length lanes * reach.most < 2 ^ 64
-  pub run : (d : Lane) → IfSome reach.run (HasRun layout (slice_index_or lanes reach.lane d))
+  pub run : (d : Lane) → IfSome reach.run (HasRun (slice_index_or lanes reach.lane d))
 
 -- what a round goes on: the gauge, lanes, and their tallies
 pub record Counts : Type 0 where
@@ -114,32 +114,32 @@ pub record Counts : Type 0 where
   pub tallies : List Tally
 
 -- All items of all lanes up to a horizon were taken.
-pub record RoundTaken (layout : Layout) (stop : Option Moment) (before now : Counts) : Type 0 where
+pub record RoundTaken (stop : Option Moment) (before now : Counts) : Type 0 where
   pub until : ℕ
   pub most : ℕ
   pub lists : List (List ItemData)
   pub lanes_long : length now.lanes ≡ length before.lanes
   pub tallies_long : length now.tallies ≡ length before.tallies
   pub each : (i : ℕ) (d : Lane) (t : Tally) → i < length before.lanes
-      → TakesUpTo layout until most (slice_index_or before.lanes i d) (slice_index_or now.lanes i d)
+      → TakesUpTo until most (slice_index_or before.lanes i d) (slice_index_or now.lanes i d)
       (slice_index_or before.tallies i t) (slice_index_or now.tallies i t) (slice_index_or lists i [])
   pub lists_long : length lists ≡ length before.lanes
   pub takes : (xs : List Keyed) → All (IsEventUpTo until) xs → length xs ≡ sum_by length lists → TakesItems before.gauge now.gauge xs
   pub inside : (key : ℕ) → key ≤ until → past_key stop key ≡ false
 
 -- so many items, or nothing, where no horizon was found
-abbrev pub IsRoundTaken : Layout → Option Moment → Counts → Counts → Option ℕ → Type 0
-IsRoundTaken layout stop before now None = now ≡ before
-IsRoundTaken layout stop before now (Some count) = (taken : RoundTaken layout stop before now) × (count ≡ sum_by length taken.lists)
+abbrev pub IsRoundTaken : Option Moment → Counts → Counts → Option ℕ → Type 0
+IsRoundTaken stop before now None = now ≡ before
+IsRoundTaken stop before now (Some count) = (taken : RoundTaken stop before now) × (count ≡ sum_by length taken.lists)
 
-abbrev pub IsRoundTried : Layout → Option Moment → Counts → Counts → Bool → Type 0
-IsRoundTried layout stop before now true = RoundTaken layout stop before now
-IsRoundTried layout stop before now false = now ≡ before
+abbrev pub IsRoundTried : Option Moment → Counts → Counts → Bool → Type 0
+IsRoundTried stop before now true = RoundTaken stop before now
+IsRoundTried stop before now false = now ≡ before
 
 -- a turn of one lane was taken, or a round, after which no lane is known to be the only one that moved
-abbrev pub IsMoreTaken : Layout → Option Moment → Counts → Counts → ℕ → Option ℕ → Type 0
-IsMoreTaken layout stop before now i (Some k) =
+abbrev pub IsMoreTaken : Option Moment → Counts → Counts → ℕ → Option ℕ → Type 0
+IsMoreTaken stop before now i (Some k) =
     (k ≡ i) × ((tally : Tally) × ((now.tallies ≡ slice_set before.tallies i tally) × ((d : Lane) (t : Tally)
-    → IsTurnTaken layout stop (record { gauge = before.gauge; tally = slice_index_or before.tallies i t })
+    → IsTurnTaken stop (record { gauge = before.gauge; tally = slice_index_or before.tallies i t })
     (record { gauge = now.gauge; tally = tally }) before.lanes i d now.lanes)))
-IsMoreTaken layout stop before now i None = RoundTaken layout stop before now
+IsMoreTaken stop before now i None = RoundTaken stop before now

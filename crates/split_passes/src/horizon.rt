@@ -3,7 +3,6 @@
 ghost use Rattle.std.specs.Prelude.{◌≡◌, ◌<◌, ◌≤◌, ℕ, All, IfSome, IsTrue, None, length, slice_index_or};
 ghost use Rattle.subpage.specs.Marks.{IsMark};
 ghost use Rattle.page_pool.specs.declared.lane.Lane.{Lane};
-ghost use Rattle.event_cursor.specs.Standing.{IsInOrder};
 ghost use Rattle.split_passes.specs.Rounds.{HasLater, HoldsLater, ReachesPast};
 ghost use Rattle.split_passes.specs.Takings.{HasRun};
 
@@ -58,11 +57,10 @@ fn is_later(layout: &Layout, page: &[u8], mark: Mark, until: u64) -> bool
 }
 
 // Of a lane that holds a sub-buffer: a run of plain records is looked at, and no further.
-fn held_horizon(layout: &Layout, lane: &Lane, most: u32, until: u64) -> Option<LaneHorizon>
-    requires in_order { IsInOrder layout.now lane.now }
+fn held_horizon(lane: &Lane, most: u32, until: u64) -> Option<LaneHorizon>
     requires held { lane.now.cursor.state ≡ LaneState.Held }
-    ensures holds { IfSome result (λ found. (found.until ≤ until) × HoldsLater layout.now found.until most lane.now) }
-    ensures run { IfSome result (λ found. IfSome found.run (HasRun layout.now lane.now)) }
+    ensures holds { IfSome result (λ found. (found.until ≤ until) × HoldsLater found.until most lane.now) }
+    ensures run { IfSome result (λ found. IfSome found.run (HasRun lane.now)) }
 {
     let Some(ahead) = lane.cursor.ahead else {
         return None;
@@ -76,10 +74,10 @@ fn held_horizon(layout: &Layout, lane: &Lane, most: u32, until: u64) -> Option<L
         until,
     };
     let page = lane.page.bytes();
-    let Some((next, count)) = plain_run(layout, page, lane.cursor.mark, &limits) else {
+    let Some((next, count)) = plain_run(&lane.layout, page, lane.cursor.mark, &limits) else {
         return below(ahead.key, until);
     };
-    if is_later(layout, page, next, until) {
+    if is_later(&lane.layout, page, next, until) {
         let run = Some(FoundRun { next, count });
         return Some(LaneHorizon { until, run });
     }
@@ -87,14 +85,13 @@ fn held_horizon(layout: &Layout, lane: &Lane, most: u32, until: u64) -> Option<L
 }
 
 #[inline(always)]
-fn lane_horizon(layout: &Layout, lane: &Lane, most: u32, until: u64) -> Option<LaneHorizon>
-    requires { IsInOrder layout.now lane.now }
-    ensures reaches { IfSome result (λ found. (found.until ≤ until) × ReachesPast layout.now found.until most lane.now) }
-    ensures run { IfSome result (λ found. IfSome found.run (HasRun layout.now lane.now)) }
+fn lane_horizon(lane: &Lane, most: u32, until: u64) -> Option<LaneHorizon>
+    ensures reaches { IfSome result (λ found. (found.until ≤ until) × ReachesPast found.until most lane.now) }
+    ensures run { IfSome result (λ found. IfSome found.run (HasRun lane.now)) }
 {
     match lane.cursor.state {
         LaneState::Fresh => None,
-        LaneState::Held => held_horizon(layout, lane, most, until),
+        LaneState::Held => held_horizon(lane, most, until),
         LaneState::Ended => Some(LaneHorizon { until, run: None }),
         LaneState::Malformed => match lane.cursor.high {
             None => None,
@@ -119,26 +116,18 @@ fn furthest(lanes: &[Lane]) -> usize
 
 // Lowers the horizon to that of lane `i`, which is looked at no further than the others go, if one is found. Lane `first` is one of
 // these.
-fn with_lane(
-    layout: &Layout,
-    lanes: &[Lane],
-    i: usize,
-    first: usize,
-    most: u32,
-    least: &mut CommonHorizon,
-) -> bool
-    requires in_order { All (IsInOrder layout.now) lanes.now }
+fn with_lane(lanes: &[Lane], i: usize, first: usize, most: u32, least: &mut CommonHorizon) -> bool
     requires inside { i < length lanes.now }
-    requires first { (d : Lane) → ReachesPast layout.now least.old.until most (slice_index_or lanes.now first d) }
-    requires run { (d : Lane) → IfSome least.old.run (HasRun layout.now (slice_index_or lanes.now least.old.lane d)) }
+    requires first { (d : Lane) → ReachesPast least.old.until most (slice_index_or lanes.now first d) }
+    requires run { (d : Lane) → IfSome least.old.run (HasRun (slice_index_or lanes.now least.old.lane d)) }
     ensures reaches { IsTrue result → (least.new.until ≤ least.old.until)
-        × ((d : Lane) → ReachesPast layout.now least.new.until most (slice_index_or lanes.now i d)) }
-    ensures run { (d : Lane) → IfSome least.new.run (HasRun layout.now (slice_index_or lanes.now least.new.lane d)) }
+        × ((d : Lane) → ReachesPast least.new.until most (slice_index_or lanes.now i d)) }
+    ensures run { (d : Lane) → IfSome least.new.run (HasRun (slice_index_or lanes.now least.new.lane d)) }
 {
     if i == first {
         return true;
     }
-    let Some(found) = lane_horizon(layout, &lanes[i], most, least.until) else {
+    let Some(found) = lane_horizon(&lanes[i], most, least.until) else {
         return false;
     };
     least.until = found.until;
@@ -152,20 +141,14 @@ fn with_lane(
 
 /// A key up to `until` up to which each lane holds all its items, at most so many, all of them events. `None` where no such key is
 /// found.
-pub(crate) fn horizon(
-    layout: &Layout,
-    lanes: &[Lane],
-    most: u32,
-    until: u64,
-) -> Option<CommonHorizon>
-    requires in_order { All (IsInOrder layout.now) lanes.now }
+pub(crate) fn horizon(lanes: &[Lane], most: u32, until: u64) -> Option<CommonHorizon>
     requires some { 0 < length lanes.now }
     ensures reaches { IfSome result (λ found. (found.until ≤ until)
-        × ((i : ℕ) (d : Lane) → i < length lanes.now → ReachesPast layout.now found.until most (slice_index_or lanes.now i d))) }
-    ensures run { IfSome result (λ found. (d : Lane) → IfSome found.run (HasRun layout.now (slice_index_or lanes.now found.lane d))) }
+        × ((i : ℕ) (d : Lane) → i < length lanes.now → ReachesPast found.until most (slice_index_or lanes.now i d))) }
+    ensures run { IfSome result (λ found. (d : Lane) → IfSome found.run (HasRun (slice_index_or lanes.now found.lane d))) }
 {
     let first = furthest(lanes);
-    let Some(found) = lane_horizon(layout, &lanes[first], most, until) else {
+    let Some(found) = lane_horizon(&lanes[first], most, until) else {
         return None;
     };
     let mut least = CommonHorizon {
@@ -174,7 +157,7 @@ pub(crate) fn horizon(
         run: found.run,
     };
     for i in 0..lanes.len() {
-        if !with_lane(layout, lanes, i, first, most, &mut least) {
+        if !with_lane(lanes, i, first, most, &mut least) {
             return None;
         }
     }

@@ -5,8 +5,8 @@ ghost use Rattle.trace_base.specs.declared.layout.Layout.{Layout};
 ghost use Rattle.subpage.specs.Arrangement.{CpusRise};
 ghost use Rattle.subpage.specs.ItemData.{ItemData};
 ghost use Rattle.page_pool.specs.declared.lane.Lane.{Lane};
-ghost use Rattle.event_cursor.specs.Standing.{IsInOrder, Stands};
-ghost use Rattle.time_merge.specs.LaneRows.{IsReady, parts_of};
+ghost use Rattle.event_cursor.specs.Standing.{Stands};
+ghost use Rattle.time_merge.specs.LaneRows.{HasLayout, IsReady, parts_of};
 ghost use Rattle.time_merge.specs.Loading.{LoadsLanes};
 ghost use Rattle.time_merge.specs.Reads.{all_unread};
 ghost use Rattle.time_merge.specs.Unused.{IsUnused};
@@ -38,7 +38,7 @@ use word_values::Moment;
 /// The lanes of a list that is cut into pieces, with what the second pass over a piece goes by: of each lane the place where the
 /// piece begins, and the tally of what it takes.
 ///
-/// The processors' numbers rise, and what the lanes' cursors say is so. A contract sees the layout of their sub-buffers, the
+/// The processors' numbers rise, and the lanes have the layout of the list. A contract sees the layout of their sub-buffers, the
 /// lanes, the places and the tallies.
 #[derive(Drop)]
 pub struct LaneList {
@@ -51,9 +51,13 @@ pub struct LaneList {
 }
 
 impl Model for LaneList {
+    ghost use Rattle.std.specs.Coded.{codes};
+    ghost use Rattle.page_pool.specs.InOrder.{in_order_coded};
     ghost use Rattle.split_passes.specs.ListSeen.{ListSeen};
 
     ghost Value = { ListSeen };
+
+    ghost coded = { Prim.hlevel (codes, in_order_coded) };
 
     ghost use Rattle.split_passes.specs.ListView.{list_view, IsLaneList};
 
@@ -73,9 +77,9 @@ impl LaneList {
         requires rise { CpusRise parts.now }
         ensures layout { IfOk result (λ list. list.layout ≡ layout.now) }
         ensures parts { IfOk result (λ list. parts_of list.all ≡ parts.now) }
-        ensures unused { IfOk result (λ list. All (IsUnused layout.now.page 0) list.all) }
+        ensures unused { IfOk result (λ list. All (IsUnused layout.now 0) list.all) }
     {
-        let pool = pool_over(alloc, layout.page, 0, parts)?;
+        let pool = pool_over(alloc, layout, 0, parts)?;
         let nexts = TournamentTree::new(alloc, parts.len() as u32)?;
         let fronts = no_places(alloc, parts.len())?;
         let tallies = no_tallies(alloc, parts.len())?;
@@ -90,7 +94,8 @@ impl LaneList {
 
     /// The lanes, to be looked at.
     pub fn lanes(&self) -> &[Lane]
-        ensures { result.now ≡ self.now.all }
+        ensures value { result.now ≡ self.now.all }
+        ensures layouts { All (HasLayout self.now.layout) self.now.all }
     {
         self.pool.all()
     }
@@ -109,14 +114,14 @@ impl LaneList {
     /// `Failed` where a read failed.
     pub fn pass_over<F: File>(&mut self, file: &mut F, start: Moment) -> Result<(), Failed>
         ensures layout { self.new.layout ≡ self.old.layout }
-        ensures through { GoThrough F.File self.old.layout file.old file.new self.old.all self.new.all }
-        ensures told { OnOk result (IfSome (F.bytes file.old) (λ bytes. All (Stands self.old.layout bytes) self.old.all
-            → ListStarted self.old.layout bytes (Some start) self.old.all self.new.all)) }
+        ensures through { GoThrough F.File file.old file.new self.old.all self.new.all }
+        ensures told { OnOk result (IfSome (F.bytes file.old) (λ bytes. All (Stands bytes) self.old.all
+            → ListStarted bytes (Some start) self.old.all self.new.all)) }
         ensures reads_done { OnOk result (F.reads file.new ≤ raised (F.reads file.old)
-            (all_unread self.old.layout (F.size file.old) self.old.all - all_unread self.old.layout (F.size file.old) self.new.all)) }
+            (all_unread (F.size file.old) self.old.all - all_unread (F.size file.old) self.new.all)) }
         ensures cause { HasCause (F.faults file.old) (F.faults file.new) result }
     {
-        pass_in(&self.layout, file, &mut self.pool, start, &mut self.nexts)
+        pass_in(file, &mut self.pool, start, &mut self.nexts)
     }
 
     /// Makes the lanes ready for a piece, and notes where they stand. Their tallies count nothing then.
@@ -125,20 +130,13 @@ impl LaneList {
     /// `Failed` where a read failed.
     pub fn begin<F: File>(&mut self, file: &mut F) -> Result<(), Failed>
         ensures layout { self.new.layout ≡ self.old.layout }
-        ensures loads { LoadsLanes F.File self.old.layout file.old file.new self.old.all self.new.all }
-        ensures in_order { All (IsInOrder self.old.layout) self.new.all }
-        ensures begun { OnOk result (IsBegun self.old.layout self.new) }
+        ensures loads { LoadsLanes F.File file.old file.new self.old.all self.new.all }
+        ensures begun { OnOk result (IsBegun self.new) }
         ensures fronts_long { length self.new.fronts ≡ length self.new.all }
         ensures tallies_long { length self.new.tallies ≡ length self.new.all }
         ensures cause { HasCause (F.faults file.old) (F.faults file.new) result }
     {
-        begin_in(
-            &self.layout,
-            file,
-            &mut self.pool,
-            &mut self.fronts,
-            &mut self.tallies,
-        )
+        begin_in(file, &mut self.pool, &mut self.fronts, &mut self.tallies)
     }
 
     /// Goes through the items of a piece, in their order, and counts each lane's items and their sub-buffers.
@@ -153,18 +151,17 @@ impl LaneList {
     ) -> Result<PieceEnd, Failed>
         ensures layout { self.new.layout ≡ self.old.layout }
         ensures fronts { self.new.fronts ≡ self.old.fronts }
-        ensures through { GoThrough F.File self.old.layout file.old file.new self.old.all self.new.all }
+        ensures through { GoThrough F.File file.old file.new self.old.all self.new.all }
         ensures tallies_long { length self.new.tallies ≡ length self.new.all }
-        ensures measured { IfOk result (λ end. IfSome (F.bytes file.old) (λ bytes. All (Stands self.old.layout bytes) self.old.all
-            → Tallied self.old.layout self.old.all [] self.old.tallies
-            → IsMeasured self.old.layout bytes stop (record { gauge = gauge.old; lanes = self.old.all })
+        ensures measured { IfOk result (λ end. IfSome (F.bytes file.old) (λ bytes. All (Stands bytes) self.old.all
+            → Tallied self.old.all [] self.old.tallies
+            → IsMeasured bytes stop (record { gauge = gauge.old; lanes = self.old.all })
             (record { gauge = gauge.new; lanes = self.new.all }) self.new.tallies end)) }
-        ensures ready { OnOk result (All (IsReady self.old.layout) self.new.all) }
+        ensures ready { OnOk result (All IsReady self.new.all) }
         ensures over { SkipsOver self.old.all self.old.tallies self.new.tallies }
         ensures cause { HasCause (F.faults file.old) (F.faults file.new) result }
     {
         measure_in(
-            &self.layout,
             file,
             &mut self.pool,
             stop,
@@ -184,8 +181,8 @@ impl LaneList {
         ensures fronts_long { length self.old.fronts ≡ length self.old.all }
         ensures tallies_long { length self.old.tallies ≡ length self.old.all }
         ensures whole { length page.new ≡ self.old.layout.page }
-        ensures told { IfSome (F.bytes file.old) (λ bytes. All (Stands self.old.layout bytes) self.old.all
-            → (lists : List (List ItemData)) → AreFronts self.old.layout bytes self.old.all self.old.fronts self.old.tallies lists
+        ensures told { IfSome (F.bytes file.old) (λ bytes. All (Stands bytes) self.old.all
+            → (lists : List (List ItemData)) → AreFronts bytes self.old.all self.old.fronts self.old.tallies lists
             → IsPackedAll self.old.layout bytes lists (record { lanes = self.old.all; written = O.written out.old })
             (record { lanes = self.new.all; written = O.written out.new }) result) }
         // The next three hold of any file, also of one that gives other bytes than when the piece was measured.
@@ -193,7 +190,7 @@ impl LaneList {
         ensures gains { result ≡ End.Done → GainsSome (O.written out.old) (O.written out.new) }
         ensures numbers { result ≡ End.Done → numbers_of self.new.all ≡ numbers_of self.old.all }
         ensures reads { F.reads file.new ≤ raised (F.reads file.old)
-            (all_packing self.old.layout (F.size file.old) self.old.all self.old.fronts self.old.tallies) }
+            (all_packing (F.size file.old) self.old.all self.old.fronts self.old.tallies) }
         ensures read { result ≡ End.Read → Rose (F.faults file.old) (F.faults file.new) }
         ensures write { result ≡ End.Write → Rose (O.faults out.old) (O.faults out.new) }
         ensures keeps_out { KeepsSink O.Sink out.old out.new }
@@ -234,52 +231,47 @@ fn no_tallies(alloc: Global, count: usize) -> Result<Vec<Tally>, AllocError>
 
 // The same over the parts of a list.
 fn pass_in<F: File>(
-    layout: &Layout,
     file: &mut F,
     pool: &mut Pool,
     start: Moment,
     nexts: &mut TournamentTree,
 ) -> Result<(), Failed>
-    requires in_order { All (IsInOrder layout.now) pool.old }
     requires rise { CpusRise (parts_of pool.old) }
     requires slots { length nexts.old ≡ length pool.old }
-    ensures through { GoThrough F.File layout.now file.old file.new pool.old pool.new }
+    ensures through { GoThrough F.File file.old file.new pool.old pool.new }
     ensures slots { length nexts.new ≡ length nexts.old }
-    ensures told { OnOk result (IfSome (F.bytes file.old) (λ bytes. All (Stands layout.now bytes) pool.old
-        → ListStarted layout.now bytes (Some start) pool.old pool.new)) }
+    ensures told { OnOk result (IfSome (F.bytes file.old) (λ bytes. All (Stands bytes) pool.old
+        → ListStarted bytes (Some start) pool.old pool.new)) }
     ensures reads_done { OnOk result (F.reads file.new ≤ raised (F.reads file.old)
-        (all_unread layout.now (F.size file.old) pool.old - all_unread layout.now (F.size file.old) pool.new)) }
+        (all_unread (F.size file.old) pool.old - all_unread (F.size file.old) pool.new)) }
     ensures cause { HasCause (F.faults file.old) (F.faults file.new) result }
 {
-    pass_over(layout, file, pool.lanes(), start, nexts)
+    pass_over(file, pool.lanes(), start, nexts)
 }
 
 fn begin_in<F: File>(
-    layout: &Layout,
     file: &mut F,
     pool: &mut Pool,
     fronts: &mut Vec<Place>,
     tallies: &mut Vec<Tally>,
 ) -> Result<(), Failed>
-    requires in_order { All (IsInOrder layout.now) pool.old }
     requires fronts_long { length fronts.old.items ≡ length pool.old }
     requires tallies_long { length tallies.old.items ≡ length pool.old }
-    ensures loads { LoadsLanes F.File layout.now file.old file.new pool.old pool.new }
-    ensures ready { OnOk result (All (IsReady layout.now) pool.new) }
+    ensures loads { LoadsLanes F.File file.old file.new pool.old pool.new }
+    ensures ready { OnOk result (All IsReady pool.new) }
     ensures noted { OnOk result (AreNoted pool.new fronts.new.items) }
-    ensures none { OnOk result (All (λ tally. IsTally layout.now tally []) tallies.new.items) }
+    ensures none { OnOk result ((layout : Layout) → All (λ tally. IsTally layout tally []) tallies.new.items) }
     ensures fronts_long { length fronts.new.items ≡ length pool.new }
     ensures tallies_long { length tallies.new.items ≡ length pool.new }
     ensures cause { HasCause (F.faults file.old) (F.faults file.new) result }
 {
-    make_all_ready(layout, file, pool.lanes())?;
+    make_all_ready(file, pool.lanes())?;
     note_fronts(pool.all(), fronts.as_mut_slice());
     clear(tallies.as_mut_slice());
     Ok(())
 }
 
 fn measure_in<F: File>(
-    layout: &Layout,
     file: &mut F,
     pool: &mut Pool,
     stop: Option<Moment>,
@@ -287,23 +279,21 @@ fn measure_in<F: File>(
     tallies: &mut Vec<Tally>,
     nexts: &mut TournamentTree,
 ) -> Result<PieceEnd, Failed>
-    requires in_order { All (IsInOrder layout.now) pool.old }
     requires rise { CpusRise (parts_of pool.old) }
     requires long { length tallies.old.items ≡ length pool.old }
     requires slots { length nexts.old ≡ length pool.old }
-    ensures through { GoThrough F.File layout.now file.old file.new pool.old pool.new }
+    ensures through { GoThrough F.File file.old file.new pool.old pool.new }
     ensures slots { length nexts.new ≡ length nexts.old }
     ensures long { length tallies.new.items ≡ length pool.new }
-    ensures measured { IfOk result (λ end. IfSome (F.bytes file.old) (λ bytes. All (Stands layout.now bytes) pool.old
-        → Tallied layout.now pool.old [] tallies.old.items
-        → IsMeasured layout.now bytes stop (record { gauge = gauge.old; lanes = pool.old }) (record { gauge = gauge.new; lanes = pool.new })
+    ensures measured { IfOk result (λ end. IfSome (F.bytes file.old) (λ bytes. All (Stands bytes) pool.old
+        → Tallied pool.old [] tallies.old.items
+        → IsMeasured bytes stop (record { gauge = gauge.old; lanes = pool.old }) (record { gauge = gauge.new; lanes = pool.new })
         tallies.new.items end)) }
-    ensures ready { OnOk result (All (IsReady layout.now) pool.new) }
+    ensures ready { OnOk result (All IsReady pool.new) }
     ensures over { SkipsOver pool.old tallies.old.items tallies.new.items }
     ensures cause { HasCause (F.faults file.old) (F.faults file.new) result }
 {
     measure(
-        layout,
         file,
         pool.lanes(),
         stop,
@@ -322,22 +312,22 @@ fn pack_in<F: File, O: Sink>(
     page: &mut [u8],
     out: &mut O,
 ) -> End
-    requires in_order { All (IsInOrder layout.now) pool.old }
+    requires layouts { All (HasLayout layout.now) pool.old }
     requires whole { length page.old ≡ layout.now.page }
     requires fronts { length fronts.now ≡ length pool.old }
     requires tallies { length tallies.now ≡ length pool.old }
-    ensures in_order { All (IsInOrder layout.now) pool.new }
+    ensures layouts { All (HasLayout layout.now) pool.new }
     ensures parts { parts_of pool.new ≡ parts_of pool.old }
     ensures whole { length page.new ≡ layout.now.page }
-    ensures told { IfSome (F.bytes file.old) (λ bytes. All (Stands layout.now bytes) pool.old
-        → (lists : List (List ItemData)) → AreFronts layout.now bytes pool.old fronts.now tallies.now lists
+    ensures told { IfSome (F.bytes file.old) (λ bytes. All (Stands bytes) pool.old
+        → (lists : List (List ItemData)) → AreFronts bytes pool.old fronts.now tallies.now lists
         → IsPackedAll layout.now bytes lists (record { lanes = pool.old; written = O.written out.old })
         (record { lanes = pool.new; written = O.written out.new }) result) }
     ensures malformed { TellsStop pool.old pool.new result }
     ensures gains { result ≡ End.Done → GainsSome (O.written out.old) (O.written out.new) }
     ensures numbers { result ≡ End.Done → numbers_of pool.new ≡ numbers_of pool.old }
     ensures reads { F.reads file.new ≤ raised (F.reads file.old)
-        (all_packing layout.now (F.size file.old) pool.old fronts.now tallies.now) }
+        (all_packing (F.size file.old) pool.old fronts.now tallies.now) }
     ensures read { result ≡ End.Read → Rose (F.faults file.old) (F.faults file.new) }
     ensures write { result ≡ End.Write → Rose (O.faults out.old) (O.faults out.new) }
     ensures keeps_out { KeepsSink O.Sink out.old out.new }

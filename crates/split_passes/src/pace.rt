@@ -3,7 +3,6 @@
 ghost use Rattle.std.specs.Prelude.{◌≡◌, All, length, slice_index_or};
 ghost use Rattle.subpage.specs.Arrangement.{CpusRise};
 ghost use Rattle.page_pool.specs.declared.lane.Lane.{Lane};
-ghost use Rattle.event_cursor.specs.Standing.{IsInOrder};
 ghost use Rattle.time_merge.specs.LaneRows.{parts_of};
 ghost use Rattle.time_merge.specs.Nexts.{IsInStepBut};
 ghost use Rattle.split_passes.specs.Rounds.{IsMoreTaken, IsRoundTried};
@@ -15,7 +14,6 @@ use crate::tally::Tally;
 use page_pool::{Lane, LaneState};
 use split_pieces::Gauge;
 use tournament_tree::TournamentTree;
-use trace_base::Layout;
 use word_values::Moment;
 
 /// A turn of fewer items costs more than their share of a round.
@@ -82,23 +80,20 @@ impl Pace {
 
 // Takes a round, where one is due and its horizon is found.
 fn try_round(
-    layout: &Layout,
     lanes: &mut [Lane],
     stop: Option<Moment>,
     gauge: &mut Gauge,
     tallies: &mut [Tally],
     pace: &mut Pace,
 ) -> bool
-    requires in_order { All (IsInOrder layout.now) lanes.old }
     requires long { length tallies.old ≡ length lanes.old }
-    ensures in_order { All (IsInOrder layout.now) lanes.new }
-    ensures taken { IsRoundTried layout.now stop (record { gauge = gauge.old; lanes = lanes.old; tallies = tallies.old })
+    ensures taken { IsRoundTried stop (record { gauge = gauge.old; lanes = lanes.old; tallies = tallies.old })
         (record { gauge = gauge.new; lanes = lanes.new; tallies = tallies.new }) result }
 {
     if !pace.is_due(lanes.len()) {
         return false;
     }
-    match take_round(layout, lanes, stop, gauge, tallies) {
+    match take_round(lanes, stop, gauge, tallies) {
         Some(count) => {
             pace.after_round(count, lanes.len());
             true
@@ -112,7 +107,6 @@ fn try_round(
 
 // Takes the rest of the turn of lane `i`, where it is likely to have one.
 fn try_turn(
-    layout: &Layout,
     lanes: &mut [Lane],
     nexts: &TournamentTree,
     i: usize,
@@ -121,13 +115,11 @@ fn try_turn(
     tally: &mut Tally,
     pace: &mut Pace,
 )
-    requires in_order { All (IsInOrder layout.now) lanes.old }
     requires rise { CpusRise (parts_of lanes.old) }
-    requires in_step { IsInStepBut layout.now lanes.old nexts.now i }
+    requires in_step { IsInStepBut lanes.old nexts.now i }
     requires slots { length nexts.now ≡ length lanes.old }
     requires held { (d : Lane) → (slice_index_or lanes.old i d).cursor.state ≡ LaneState.Held }
-    ensures in_order { All (IsInOrder layout.now) lanes.new }
-    ensures taken { (d : Lane) → IsTurnTaken layout.now stop (record { gauge = gauge.old; tally = tally.old })
+    ensures taken { (d : Lane) → IsTurnTaken stop (record { gauge = gauge.old; tally = tally.old })
         (record { gauge = gauge.new; tally = tally.new }) lanes.old i d lanes.new }
 {
     if !pace.is_again(i) {
@@ -135,14 +127,13 @@ fn try_turn(
         return;
     }
     let at = lanes[i].cursor.at;
-    take_turn(layout, lanes, nexts, i, stop, gauge, tally);
+    take_turn(lanes, nexts, i, stop, gauge, tally);
     pace.after_turn(lanes[i].cursor.at.saturating_sub(at));
 }
 
 /// Takes what comes next after an item of lane `i`, as far as it is had at once: a round of all lanes, or else a run of this
 /// one. It gives the lane with which the tree is not in step, or `None` after a round.
 pub(crate) fn take_more(
-    layout: &Layout,
     lanes: &mut [Lane],
     nexts: &TournamentTree,
     i: usize,
@@ -151,19 +142,17 @@ pub(crate) fn take_more(
     tallies: &mut [Tally],
     pace: &mut Pace,
 ) -> Option<usize>
-    requires in_order { All (IsInOrder layout.now) lanes.old }
     requires rise { CpusRise (parts_of lanes.old) }
-    requires in_step { IsInStepBut layout.now lanes.old nexts.now i }
+    requires in_step { IsInStepBut lanes.old nexts.now i }
     requires slots { length nexts.now ≡ length lanes.old }
     requires long { length tallies.old ≡ length lanes.old }
     requires held { (d : Lane) → (slice_index_or lanes.old i d).cursor.state ≡ LaneState.Held }
-    ensures in_order { All (IsInOrder layout.now) lanes.new }
-    ensures taken { IsMoreTaken layout.now stop (record { gauge = gauge.old; lanes = lanes.old; tallies = tallies.old })
+    ensures taken { IsMoreTaken stop (record { gauge = gauge.old; lanes = lanes.old; tallies = tallies.old })
         (record { gauge = gauge.new; lanes = lanes.new; tallies = tallies.new }) i result }
 {
-    if try_round(layout, lanes, stop, gauge, tallies, pace) {
+    if try_round(lanes, stop, gauge, tallies, pace) {
         return None;
     }
-    try_turn(layout, lanes, nexts, i, stop, gauge, &mut tallies[i], pace);
+    try_turn(lanes, nexts, i, stop, gauge, &mut tallies[i], pace);
     Some(i)
 }

@@ -1,8 +1,7 @@
 // Rounds: what a piece takes lane by lane, since all of it stands before a horizon.
 
 ghost use Rattle.std.specs.Prelude.{◌≡◌, ◌<◌, ℕ, All, IfSome, Some, true, length};
-ghost use Rattle.trace_base.specs.declared.layout.Layout.{Layout};
-ghost use Rattle.event_cursor.specs.Standing.{IsInOrder, held_left};
+ghost use Rattle.event_cursor.specs.Standing.{held_left};
 ghost use Rattle.split_passes.specs.Rounds.{ComesBy, HeadTaken, IsLaneTaken, IsReach, IsRoundTaken, IsSomeTaken, ReachesPast};
 ghost use Rattle.split_passes.specs.Takings.{HasRun};
 
@@ -13,7 +12,6 @@ use crate::tally::Tally;
 use event_cursor::{head_key, step};
 use page_pool::{Lane, LaneState};
 use split_pieces::Gauge;
-use trace_base::Layout;
 use word_values::Moment;
 
 // How far a round goes: to the items with this key, and to so many events of a lane. A run may have been found at a lane's place.
@@ -39,7 +37,7 @@ impl Reach {
 
 // Whether the next item of a lane has a key up to this one.
 fn comes_by(lane: &Lane, until: u64) -> bool
-    ensures { (layout : Layout) → IsInOrder layout lane.now → ComesBy layout until lane.now result }
+    ensures { ComesBy until lane.now result }
 {
     match head_key(lane) {
         None => false,
@@ -48,66 +46,47 @@ fn comes_by(lane: &Lane, until: u64) -> bool
 }
 
 // Takes the next item of a lane.
-fn take_head(layout: &Layout, lane: &mut Lane, tally: &mut Tally)
-    requires in_order { IsInOrder layout.now lane.old }
+fn take_head(lane: &mut Lane, tally: &mut Tally)
     requires held { lane.old.cursor.state ≡ LaneState.Held }
-    requires some { 0 < length (held_left layout.now lane.old) }
-    ensures in_order { IsInOrder layout.now lane.new }
-    ensures taken { HeadTaken layout.now lane.old lane.new tally.old tally.new }
+    requires some { 0 < length (held_left lane.old) }
+    ensures taken { HeadTaken lane.old lane.new tally.old tally.new }
 {
-    if let Some((_, item)) = packable_head(layout, lane) {
-        tally.add(layout, &item);
-        step(layout, lane);
+    if let Some((_, item)) = packable_head(lane) {
+        tally.add(&lane.layout, &item);
+        step(lane);
     }
 }
 
 // Takes some items of a lane with keys up to this one: a run, and where there is none, the next item.
-fn take_some(
-    layout: &Layout,
-    lane: &mut Lane,
-    until: u64,
-    found: Option<FoundRun>,
-    tally: &mut Tally,
-)
-    requires in_order { IsInOrder layout.now lane.old }
-    requires comes { ComesBy layout.now until lane.old true }
-    requires found { IfSome found (HasRun layout.now lane.old) }
-    ensures in_order { IsInOrder layout.now lane.new }
-    ensures taken { IsSomeTaken layout.now until lane.old lane.new tally.old tally.new }
+fn take_some(lane: &mut Lane, until: u64, found: Option<FoundRun>, tally: &mut Tally)
+    requires comes { ComesBy until lane.old true }
+    requires found { IfSome found (HasRun lane.old) }
+    ensures taken { IsSomeTaken until lane.old lane.new tally.old tally.new }
 {
-    take_run(layout, lane, until, None, found, &mut Gauge::All, tally);
+    take_run(lane, until, None, found, &mut Gauge::All, tally);
     if comes_by(lane, until) {
-        take_head(layout, lane, tally);
+        take_head(lane, tally);
     }
 }
 
 // Takes all items of a lane with keys up to this one, and gives their number.
-fn take_lane(
-    layout: &Layout,
-    lane: &mut Lane,
-    until: u64,
-    found: Option<FoundRun>,
-    tally: &mut Tally,
-) -> u64
-    requires in_order { IsInOrder layout.now lane.old }
-    requires found { IfSome found (HasRun layout.now lane.old) }
-    ensures in_order { IsInOrder layout.now lane.new }
-    ensures taken { (most : ℕ) → ReachesPast layout.now until most lane.old
-        → IsLaneTaken layout.now until most lane.old lane.new tally.old tally.new result }
+fn take_lane(lane: &mut Lane, until: u64, found: Option<FoundRun>, tally: &mut Tally) -> u64
+    requires found { IfSome found (HasRun lane.old) }
+    ensures taken { (most : ℕ) → ReachesPast until most lane.old
+        → IsLaneTaken until most lane.old lane.new tally.old tally.new result }
 {
     let from = lane.cursor.at;
     let mut run = found;
     while comes_by(lane, until) {
-        take_some(layout, lane, until, run, tally);
+        take_some(lane, until, run, tally);
         run = None;
     }
     u64::from(lane.cursor.at - from)
 }
 
 // How far the next round goes.
-fn reach_of(layout: &Layout, lanes: &[Lane], stop: Option<Moment>, gauge: &Gauge) -> Option<Reach>
-    requires { All (IsInOrder layout.now) lanes.now }
-    ensures { IfSome result (λ reach. IsReach layout.now stop gauge.now lanes.now reach) }
+fn reach_of(lanes: &[Lane], stop: Option<Moment>, gauge: &Gauge) -> Option<Reach>
+    ensures { IfSome result (λ reach. IsReach stop gauge.now lanes.now reach) }
 {
     let Some(allowance) = gauge.allows() else {
         return None;
@@ -116,12 +95,7 @@ fn reach_of(layout: &Layout, lanes: &[Lane], stop: Option<Moment>, gauge: &Gauge
         return None;
     }
     let most = (allowance.events / lanes.len() as u64).min(MOST) as u32;
-    match horizon(
-        layout,
-        lanes,
-        most,
-        until_of(u64::MAX, allowance.until, stop),
-    ) {
+    match horizon(lanes, most, until_of(u64::MAX, allowance.until, stop)) {
         None => None,
         Some(found) => Some(Reach {
             until: found.until,
@@ -135,25 +109,22 @@ fn reach_of(layout: &Layout, lanes: &[Lane], stop: Option<Moment>, gauge: &Gauge
 /// Takes all items of all lanes up to a horizon into a piece and its tallies, lane by lane, and gives their number. `None` where
 /// none is found; nothing is taken then.
 pub fn take_round(
-    layout: &Layout,
     lanes: &mut [Lane],
     stop: Option<Moment>,
     gauge: &mut Gauge,
     tallies: &mut [Tally],
 ) -> Option<u64>
-    requires in_order { All (IsInOrder layout.now) lanes.old }
     requires long { length tallies.old ≡ length lanes.old }
-    ensures in_order { All (IsInOrder layout.now) lanes.new }
-    ensures taken { IsRoundTaken layout.now stop (record { gauge = gauge.old; lanes = lanes.old; tallies = tallies.old })
+    ensures taken { IsRoundTaken stop (record { gauge = gauge.old; lanes = lanes.old; tallies = tallies.old })
         (record { gauge = gauge.new; lanes = lanes.new; tallies = tallies.new }) result }
 {
-    let Some(reach) = reach_of(layout, lanes, stop, gauge) else {
+    let Some(reach) = reach_of(lanes, stop, gauge) else {
         return None;
     };
     let mut count = 0;
     for i in 0..lanes.len() {
         let run = reach.run_of(i);
-        count += take_lane(layout, &mut lanes[i], reach.until, run, &mut tallies[i]);
+        count += take_lane(&mut lanes[i], reach.until, run, &mut tallies[i]);
     }
     gauge.takes_events(count);
     Some(count)

@@ -5,7 +5,7 @@ ghost use Rattle.trace_outside.specs.Causes.{HasCause, raised};
 ghost use Rattle.subpage.specs.Arrangement.{CpusRise, Keyed};
 ghost use Rattle.page_pool.specs.declared.lane.Lane.{Lane};
 ghost use Rattle.event_cursor.specs.Keys.{first_of};
-ghost use Rattle.event_cursor.specs.Standing.{IsInOrder, Stands, keyed_held};
+ghost use Rattle.event_cursor.specs.Standing.{Stands, keyed_held};
 ghost use Rattle.time_merge.specs.LaneRows.{parts_of};
 ghost use Rattle.time_merge.specs.Reads.{all_unread};
 ghost use Rattle.split_pieces.specs.Moments.{is_before};
@@ -17,14 +17,12 @@ use page_pool::Lane;
 use split_pieces::is_before;
 use time_merge::{Next, next_lane_by};
 use tournament_tree::TournamentTree;
-use trace_base::Layout;
 use trace_outside::{Failed, File};
 use word_values::Moment;
 
 // Whether a lane's first item stands before the start.
-fn stands_before(layout: &Layout, lane: &Lane, start: Moment) -> bool
-    requires { IsInOrder layout.now lane.now }
-    ensures { (x : Keyed) → first_of (keyed_held layout.now lane.now) ≡ Some x → result ≡ is_before start x.key }
+fn stands_before(lane: &Lane, start: Moment) -> bool
+    ensures { (x : Keyed) → first_of (keyed_held lane.now) ≡ Some x → result ≡ is_before start x.key }
 {
     match head_key(lane) {
         Some(key) => is_before(start, key),
@@ -37,31 +35,29 @@ fn stands_before(layout: &Layout, lane: &Lane, start: Moment) -> bool
 /// # Errors
 /// `Failed` where a read failed.
 pub(crate) fn pass_over<F: File>(
-    layout: &Layout,
     file: &mut F,
     lanes: &mut [Lane],
     start: Moment,
     nexts: &mut TournamentTree,
 ) -> Result<(), Failed>
-    requires in_order { All (IsInOrder layout.now) lanes.old }
     requires rise { CpusRise (parts_of lanes.old) }
     requires slots { length nexts.old ≡ length lanes.old }
-    ensures through { GoThrough F.File layout.now file.old file.new lanes.old lanes.new }
+    ensures through { GoThrough F.File file.old file.new lanes.old lanes.new }
     ensures slots { length nexts.new ≡ length nexts.old }
-    ensures told { OnOk result (IfSome (F.bytes file.old) (λ bytes. All (Stands layout.now bytes) lanes.old
-        → ListStarted layout.now bytes (Some start) lanes.old lanes.new)) }
+    ensures told { OnOk result (IfSome (F.bytes file.old) (λ bytes. All (Stands bytes) lanes.old
+        → ListStarted bytes (Some start) lanes.old lanes.new)) }
     ensures reads_done { OnOk result (F.reads file.new ≤ raised (F.reads file.old)
-        (all_unread layout.now (F.size file.old) lanes.old - all_unread layout.now (F.size file.old) lanes.new)) }
+        (all_unread (F.size file.old) lanes.old - all_unread (F.size file.old) lanes.new)) }
     ensures cause { HasCause (F.faults file.old) (F.faults file.new) result }
 {
     let mut used = None;
     loop {
-        match next_lane_by(layout, file, lanes, nexts, used)? {
+        match next_lane_by(file, lanes, nexts, used)? {
             Next::Lane(i) => {
-                if !stands_before(layout, &lanes[i], start) {
+                if !stands_before(&lanes[i], start) {
                     return Ok(());
                 }
-                step(layout, &mut lanes[i]);
+                step(&mut lanes[i]);
                 used = Some(i);
             }
             Next::Done => return Ok(()),

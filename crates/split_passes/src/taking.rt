@@ -4,7 +4,6 @@ ghost use Rattle.std.specs.Prelude.{◌≡◌, ◌≤◌, ℕ, All, IfSome, fals
 ghost use Rattle.subpage.specs.Arrangement.{CpusRise};
 ghost use Rattle.page_pool.specs.Keeping.{KeepsLane, stepping};
 ghost use Rattle.page_pool.specs.declared.lane.Lane.{Lane};
-ghost use Rattle.event_cursor.specs.Standing.{IsInOrder};
 ghost use Rattle.time_merge.specs.LaneRows.{parts_of};
 ghost use Rattle.time_merge.specs.Nexts.{IsInStepBut};
 ghost use Rattle.split_passes.specs.Choices.{past_key};
@@ -66,16 +65,10 @@ fn limits_of(
 }
 
 // A run that was found at a lane's place, where it goes no further than these limits.
-fn found_within(
-    layout: &Layout,
-    lane: &Lane,
-    limits: &RunLimits,
-    found: Option<FoundRun>,
-) -> Option<(Mark, u32)>
-    requires in_order { IsInOrder layout.now lane.now }
+fn found_within(lane: &Lane, limits: &RunLimits, found: Option<FoundRun>) -> Option<(Mark, u32)>
     requires held { lane.now.cursor.state ≡ LaneState.Held }
-    requires found { IfSome found (HasRun layout.now lane.now) }
-    ensures { IfSome result (λ run. RunWithin layout.now lane.now limits.now run.0 run.1) }
+    requires found { IfSome found (HasRun lane.now) }
+    ensures { IfSome result (λ run. RunWithin lane.now limits.now run.0 run.1) }
 {
     let Some(run) = found else {
         return None;
@@ -93,16 +86,14 @@ fn found_within(
 // The run of plain records at a lane's place that goes no further, where the item counted last stands right before it. One
 // that was found there is not looked for again.
 fn next_taken(
-    layout: &Layout,
     lane: &Lane,
     limits: &RunLimits,
     found: Option<FoundRun>,
     tally: &Tally,
 ) -> Option<(Mark, u32)>
-    requires in_order { IsInOrder layout.now lane.now }
     requires held { lane.now.cursor.state ≡ LaneState.Held }
-    requires found { IfSome found (HasRun layout.now lane.now) }
-    ensures { IfSome result (λ run. RunAllowed layout.now lane.now limits.now tally.now run.0 run.1) }
+    requires found { IfSome found (HasRun lane.now) }
+    ensures { IfSome result (λ run. RunAllowed lane.now limits.now tally.now run.0 run.1) }
 {
     let Some(ahead) = lane.cursor.ahead else {
         return None;
@@ -116,17 +107,16 @@ fn next_taken(
     if time != lane.cursor.mark.time() {
         return None;
     }
-    if let Some(known) = found_within(layout, lane, limits, found) {
+    if let Some(known) = found_within(lane, limits, found) {
         return Some(known);
     }
-    plain_run(layout, lane.page.bytes(), lane.cursor.mark, limits)
+    plain_run(&lane.layout, lane.page.bytes(), lane.cursor.mark, limits)
 }
 
 /// Takes the run of plain records at a lane's place into a piece and its tally, no further than to the key `turn`. `found` is one
 /// that was found there, if it is known.
 #[inline(always)]
 pub(crate) fn take_run(
-    layout: &Layout,
     lane: &mut Lane,
     turn: u64,
     stop: Option<Moment>,
@@ -134,30 +124,28 @@ pub(crate) fn take_run(
     gauge: &mut Gauge,
     tally: &mut Tally,
 )
-    requires in_order { IsInOrder layout.now lane.old }
     requires held { lane.old.cursor.state ≡ LaneState.Held }
-    requires found { IfSome found (HasRun layout.now lane.old) }
-    ensures in_order { IsInOrder layout.now lane.new }
+    requires found { IfSome found (HasRun lane.old) }
     ensures lane { KeepsLane stepping lane.old lane.new }
-    ensures taken { IsRunTaken layout.now stop turn (record { gauge = gauge.old; tally = tally.old })
+    ensures taken { IsRunTaken stop turn (record { gauge = gauge.old; tally = tally.old })
         (record { gauge = gauge.new; tally = tally.new }) lane.old lane.new }
 {
-    let Some(limits) = limits_of(layout, turn, stop, gauge, tally) else {
+    let layout = lane.layout;
+    let Some(limits) = limits_of(&layout, turn, stop, gauge, tally) else {
         return;
     };
-    let Some((next, count)) = next_taken(layout, lane, &limits, found, tally) else {
+    let Some((next, count)) = next_taken(lane, &limits, found, tally) else {
         return;
     };
     let run = run_between(lane.page.bytes(), &lane.cursor.mark, &next);
-    tally.add_run(layout, run, next.time(), count);
+    tally.add_run(&layout, run, next.time(), count);
     gauge.takes_events(u64::from(count));
-    step_run(layout, lane, next, count);
+    step_run(lane, next, count);
 }
 
 /// Takes the run of plain records at a lane's place into a piece and its tally, as far as its items come before those of all other
 /// lanes. These are ready, and the tree is in step with them.
 pub(crate) fn take_turn(
-    layout: &Layout,
     lanes: &mut [Lane],
     nexts: &TournamentTree,
     i: usize,
@@ -165,16 +153,14 @@ pub(crate) fn take_turn(
     gauge: &mut Gauge,
     tally: &mut Tally,
 )
-    requires in_order { All (IsInOrder layout.now) lanes.old }
     requires rise { CpusRise (parts_of lanes.old) }
-    requires in_step { IsInStepBut layout.now lanes.old nexts.now i }
+    requires in_step { IsInStepBut lanes.old nexts.now i }
     requires slots { length nexts.now ≡ length lanes.old }
     requires held { (d : Lane) → (slice_index_or lanes.old i d).cursor.state ≡ LaneState.Held }
-    ensures in_order { All (IsInOrder layout.now) lanes.new }
-    ensures taken { (d : Lane) → IsTurnTaken layout.now stop (record { gauge = gauge.old; tally = tally.old })
+    ensures taken { (d : Lane) → IsTurnTaken stop (record { gauge = gauge.old; tally = tally.old })
         (record { gauge = gauge.new; tally = tally.new }) lanes.old i d lanes.new }
 {
-    if let Some(turn) = turn_of(layout, lanes, nexts, i) {
-        take_run(layout, &mut lanes[i], turn, stop, None, gauge, tally);
+    if let Some(turn) = turn_of(lanes, nexts, i) {
+        take_run(&mut lanes[i], turn, stop, None, gauge, tally);
     }
 }

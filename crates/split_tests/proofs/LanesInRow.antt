@@ -2,30 +2,11 @@
 use Rattle.std.proofs.Common.{◌≡◌, ℕ, ◌+◌, ◌<◌, ◌≤◌, List, [], ◌∷◌, ◌++◌, length, get_or, set, take, sym, ap, subst, ◌∙◌, inl, inr, refl, zero, suc, arith, get_or-set_same, get_or-set_other}
 use Rattle.std.specs.List.{All, enumerate_from}
 use Rattle.std.proofs.lemmas.Bool.{cases_lt}
-use Rattle.std.proofs.lemmas.List.{length-replicate}
-use Rattle.std.proofs.lemmas.List.Elements.{All-set, All-get_or, All-weaker, All-nil, All-cons}
-use Rattle.trace_base.specs.declared.layout.Layout.{Layout}
+use Rattle.std.proofs.lemmas.List.Elements.{All-nil, All-cons}
 use Rattle.trace_base.specs.declared.part.Part.{Part}
 use Rattle.subpage.specs.Arrangement.{CpusRise}
-use Rattle.page_pool.specs.Fresh.{IsFresh, IsNew}
 use Rattle.page_pool.specs.declared.lane.Lane.{Lane}
-use Rattle.event_cursor.specs.Standing.{IsInOrder}
 use Rattle.time_merge.specs.LaneRows.{parts_of}
-use Rattle.time_merge.proofs.Starting.{fresh_in_order}
-
--- a fresh lane with a buffer of this length
-pub record IsReady (len : ℕ) (lane : Lane) : Type 0 where
-  pub fresh : IsFresh lane.cursor
-  pub long : length lane.page ≡ len
-
-pub new_ready : (len text : ℕ) (lanes : List Lane) → All (IsNew len text) lanes → All (IsReady len) lanes
-new_ready len text lanes new = All-weaker (IsNew len text) (IsReady len) (λ a n. record { fresh = n.cursor; long = ap length n.page ∙ length-replicate len 0 }) lanes new
-
-pub set_ready : (len i : ℕ) (lanes : List Lane) (d a : Lane) → i < length lanes → a.cursor ≡ (get_or lanes i d).cursor → a.page ≡ (get_or lanes i d).page
-    → All (IsReady len) lanes → All (IsReady len) (set lanes i a)
-set_ready len i lanes d a inside cursor page ready =
-    let here = All-get_or (IsReady len) lanes i d inside ready in
-    All-set (IsReady len) lanes i a (record { fresh = subst IsFresh (sym cursor) here.fresh; long = ap length page ∙ here.long }) ready
 
 abbrev pub AreNumbered : ℕ → ℕ → List Lane → Type 0
 AreNumbered from count lanes = (j : ℕ) (d : Lane) → j < count → (get_or lanes j d).cpu ≡ from + j
@@ -42,9 +23,6 @@ set_numbered from i lanes a inside is before j d lt = elim (cases_lt j i) [
       ∙ is
       ∙ ap (λ (k : ℕ). from + k) (sym e)
 ]
-
-pub ready_in_order : (l : Layout) (lanes : List Lane) → All (IsReady l.page) lanes → All (IsInOrder l) lanes
-ready_in_order l lanes ready = All-weaker (IsReady l.page) (IsInOrder l) (λ a r. fresh_in_order l a r.fresh r.long) lanes ready
 
 pub numbered_rise : (from : ℕ) (lanes : List Lane) → AreNumbered from (length lanes) lanes → CpusRise (parts_of lanes)
 numbered_rise from [] numbered = tt

@@ -10,12 +10,13 @@ use Rattle.trace_base.specs.declared.part.Part.{Part}
 use Rattle.subpage.specs.Arrangement.{Keyed}
 use Rattle.page_pool.specs.declared.lane.Lane.{Lane}
 use Rattle.time_merge.specs.Advancing.{Advances}
-use Rattle.time_merge.specs.LaneRows.{parts_of, row_of, rows_of}
+use Rattle.time_merge.specs.LaneRows.{HasLayout, parts_of, row_of, rows_of}
 use Rattle.time_merge.specs.Rows.{Row}
 use Rattle.time_merge.proofs.Advancing.{same_length}
 use Rattle.split_passes.specs.ListSeen.{ListSeen}
 use Rattle.split_tool.specs.Going.{ListGoes}
 use Rattle.split_tool.specs.Lists.{AreGroups, EachList, lanes_of}
+use Rattle.split_tool.specs.Work.{HasOwnLayouts}
 use Rattle.split_tool.proofs.Beginning.{single}
 use Rattle.split_tool.proofs.OneByOne.{One, one_of}
 
@@ -85,27 +86,27 @@ advance_flat (a ∷ first) (b ∷ now) long each j d lt =
 
 -- GROUPS
 
-abbrev pub rows_in : Layout → List ℕ → ListSeen → List (Row Keyed)
-rows_in l file x = rows_of l file x.all
+abbrev pub rows_in : List ℕ → ListSeen → List (Row Keyed)
+rows_in file x = rows_of file x.all
 
-singles_are : (l : Layout) (file : List ℕ) (lists : List ListSeen) → AreGroups true lists → map single (rows_of l file (lanes_of lists)) ≡ map (rows_in l file) lists
-singles_are l file [] g = refl
-singles_are l file (x ∷ lists) g =
+singles_are : (file : List ℕ) (lists : List ListSeen) → AreGroups true lists → map single (rows_of file (lanes_of lists)) ≡ map (rows_in file) lists
+singles_are file [] g = refl
+singles_are file (x ∷ lists) g =
     let one : One x.all = one_of x.all (All-head (λ (y : ListSeen). length y.all ≡ 1) x lists g) in
-    ap (λ (ls : List Lane). map single (rows_of l file (ls ++ lanes_of lists))) one.is
-    ∙ ap (λ (gs : List (List (Row Keyed))). single (row_of l file one.item) ∷ gs) (singles_are l file lists (All-tail (λ (y : ListSeen). length y.all ≡ 1) x lists g))
-    ∙ ap (λ (ls : List Lane). rows_of l file ls ∷ map (rows_in l file) lists) (sym one.is)
+    ap (λ (ls : List Lane). map single (rows_of file (ls ++ lanes_of lists))) one.is
+    ∙ ap (λ (gs : List (List (Row Keyed))). single (row_of file one.item) ∷ gs) (singles_are file lists (All-tail (λ (y : ListSeen). length y.all ≡ 1) x lists g))
+    ∙ ap (λ (ls : List Lane). rows_of file ls ∷ map (rows_in file) lists) (sym one.is)
 
-whole_is : (l : Layout) (file : List ℕ) (lists : List ListSeen) → AreGroups false lists → rows_of l file (lanes_of lists) ∷ [] ≡ map (rows_in l file) lists
-whole_is l file [] g = absurd (omega (arith, g))
-whole_is l file (x ∷ y ∷ lists) g = absurd (omega (arith, g))
-whole_is l file (x ∷ []) g = ap (λ (ls : List Lane). rows_of l file ls ∷ []) (append-nil x.all)
+whole_is : (file : List ℕ) (lists : List ListSeen) → AreGroups false lists → rows_of file (lanes_of lists) ∷ [] ≡ map (rows_in file) lists
+whole_is file [] g = absurd (omega (arith, g))
+whole_is file (x ∷ y ∷ lists) g = absurd (omega (arith, g))
+whole_is file (x ∷ []) g = ap (λ (ls : List Lane). rows_of file ls ∷ []) (append-nil x.all)
 
 -- the rows of lists in groups are those of each
-pub groups_are : (l : Layout) (file : List ℕ) (b : Bool) (lists : List ListSeen) → AreGroups b lists
-    → (if b then map single (rows_of l file (lanes_of lists)) else rows_of l file (lanes_of lists) ∷ []) ≡ map (rows_in l file) lists
-groups_are l file true lists g = singles_are l file lists g
-groups_are l file false lists g = whole_is l file lists g
+pub groups_are : (file : List ℕ) (b : Bool) (lists : List ListSeen) → AreGroups b lists
+    → (if b then map single (rows_of file (lanes_of lists)) else rows_of file (lanes_of lists) ∷ []) ≡ map (rows_in file) lists
+groups_are file true lists g = singles_are file lists g
+groups_are file false lists g = whole_is file lists g
 
 -- the groups stay where lists go on
 pub groups_kept : (b : Bool) (first now : List ListSeen) → length now ≡ length first → EachList Kept first now → AreGroups b first → AreGroups b now
@@ -131,3 +132,13 @@ single_at (x ∷ lists) (suc k) i e d g lt lt2 =
     let one : One x.all = one_of x.all (All-head (λ (y : ListSeen). length y.all ≡ 1) x lists g) in
     let more = single_at lists k i e d (All-tail (λ (y : ListSeen). length y.all ≡ 1) x lists g) (omega (arith, lt)) lt2 in
     (ap (λ (ls : List Lane). get_or (ls ++ lanes_of lists) (suc k) d) one.is ∙ more.0, more.1)
+
+-- lanes of lists that have this layout, whose own lanes have theirs
+pub own_layouts : (l : Layout) (lists : List ListSeen) → All (λ (x : ListSeen). x.layout ≡ l) lists → All HasOwnLayouts lists → All (HasLayout l) (lanes_of lists)
+own_layouts l lists layouts own = all_flat (HasLayout l) lists (λ k e lt i d inside. own k e lt i d inside ∙ layouts k e lt)
+
+-- they keep it
+pub go_layouts : (l : Layout) (first now : List ListSeen) → length now ≡ length first → EachList ListGoes first now → All (HasLayout l) (lanes_of first) → All (HasLayout l) (lanes_of now)
+go_layouts l first now long goes layouts i d lt =
+    let inside : i < length (lanes_of first) = omega (arith, lt, same_length (lanes_of now) (lanes_of first) (parts_flat first now long goes)) in
+    (advance_flat first now long goes i d inside).layout ∙ layouts i d inside

@@ -5,7 +5,6 @@ use Rattle.std.proofs.lemmas.Bool.{cases_eq}
 use Rattle.std.proofs.lemmas.Grind.{get_or-set_at}
 use Rattle.std.proofs.lemmas.List.{get_or-set_other, get_or_default, length-set}
 use Rattle.std.proofs.lemmas.List.Sums.{get_or-le-sum_by, sum_by-set}
-use Rattle.trace_base.specs.declared.layout.Layout.{Layout}
 use Rattle.trace_outside.specs.declared.outside.File as file
 use Rattle.trace_outside.specs.Causes.{raised}
 use Rattle.trace_outside.specs.Keeping.{KeepsFile}
@@ -22,19 +21,19 @@ use Rattle.split_tool.specs.Lists.{EachList, lanes_of}
 use Rattle.split_tool.proofs.Flat.{flat_all, sum_flat}
 
 -- the first n lists went through items
-pub record GoneTo {F : Type 0} (f : file.Ghosts F) (l : Layout) (n : ℕ) (a b : F) (first now : List ListSeen) : Type 0 where
+pub record GoneTo {F : Type 0} (f : file.Ghosts F) (n : ℕ) (a b : F) (first now : List ListSeen) : Type 0 where
   pub long : length now ≡ length first
   pub each : EachList ListGoes first now
   pub others : (j : ℕ) (d : ListSeen) → n ≤ j → get_or now j d ≡ get_or first j d
-  pub reads : f.reads b ≤ raised (f.reads a) (all_unread l (f.size a) (lanes_of first) - all_unread l (f.size a) (lanes_of now))
-  pub unread : all_unread l (f.size a) (lanes_of now) ≤ all_unread l (f.size a) (lanes_of first)
+  pub reads : f.reads b ≤ raised (f.reads a) (all_unread (f.size a) (lanes_of first) - all_unread (f.size a) (lanes_of now))
+  pub unread : all_unread (f.size a) (lanes_of now) ≤ all_unread (f.size a) (lanes_of first)
   pub keeps : KeepsFile f a b
 
 pub goes_not : (x : ListSeen) → ListGoes x x
 goes_not x = record { layout = refl; parts = refl; advance = λ i d lt. advances_not (get_or x.all i d) }
 
-pub gone_none : {F : Type 0} {f : file.Ghosts F} (l : Layout) (a : F) (lists : List ListSeen) → GoneTo f l 0 a a lists lists
-gone_none l a lists = record {
+pub gone_none : {F : Type 0} {f : file.Ghosts F} (a : F) (lists : List ListSeen) → GoneTo f 0 a a lists lists
+gone_none a lists = record {
   long = refl;
   each = λ j d lt. goes_not (get_or lists j d);
   others = λ j d le. refl;
@@ -43,12 +42,12 @@ gone_none l a lists = record {
   keeps = file_still _ _;
 }
 
-pub gone_all : {F : Type 0} {f : file.Ghosts F} (l : Layout) (n : ℕ) (a b : F) (first now : List ListSeen) → GoneTo f l n a b first now → ListsGo f l a b first now
-gone_all l n a b first now g = record { long = g.long; each = g.each; reads = omega (arith, g.reads); unread = g.unread; keeps = g.keeps }
+pub gone_all : {F : Type 0} {f : file.Ghosts F} (n : ℕ) (a b : F) (first now : List ListSeen) → GoneTo f n a b first now → ListsGo f a b first now
+gone_all n a b first now g = record { long = g.long; each = g.each; reads = omega (arith, g.reads); unread = g.unread; keeps = g.keeps }
 
 -- one list more
-module _ {F : Type 0} {f : file.Ghosts F} (l : Layout) (n : ℕ) (a b c : F) (first now : List ListSeen) (d new : ListSeen) (lt : n < length now) (layout_is : (get_or now n d).layout ≡ l) (same : new.layout ≡ (get_or now n d).layout)
-    (through : GoThrough f (get_or now n d).layout b c (get_or now n d).all new.all) (g : GoneTo f l n a b first now) where
+module _ {F : Type 0} {f : file.Ghosts F} (n : ℕ) (a b c : F) (first now : List ListSeen) (d new : ListSeen) (lt : n < length now) (same : new.layout ≡ (get_or now n d).layout)
+    (through : GoThrough f b c (get_or now n d).all new.all) (g : GoneTo f n a b first now) where
   goes : ListGoes (get_or now n d) new
   goes = record { layout = same; parts = through.parts; advance = through.advance }
 
@@ -70,29 +69,27 @@ module _ {F : Type 0} {f : file.Ghosts F} (l : Layout) (n : ℕ) (a b c : F) (fi
     sum_less : sum_by h (get_or now n d).all ≤ sum_by h (lanes_of now)
     sum_less = omega (arith, sum_flat h now, get_or-le-sum_by (λ (x : ListSeen). sum_by h x.all) now n d lt)
 
-  less : all_unread l (f.size a) new.all ≤ all_unread l (f.size a) (get_or now n d).all
-  less = subst (λ (m : ℕ). all_unread l m new.all ≤ all_unread l m (get_or now n d).all) g.keeps.size (subst (λ (k : Layout). all_unread k (f.size b) new.all ≤ all_unread k (f.size b) (get_or now n d).all) layout_is through.unread)
+  less : all_unread (f.size a) new.all ≤ all_unread (f.size a) (get_or now n d).all
+  less = subst (λ (m : ℕ). all_unread m new.all ≤ all_unread m (get_or now n d).all) g.keeps.size through.unread
 
-  unread_on : all_unread l (f.size a) (lanes_of (set now n new)) ≤ all_unread l (f.size a) (lanes_of first)
-  unread_on = omega (arith, less, g.unread, sum_on (unread l (f.size a)))
+  unread_on : all_unread (f.size a) (lanes_of (set now n new)) ≤ all_unread (f.size a) (lanes_of first)
+  unread_on = omega (arith, less, g.unread, sum_on (unread (f.size a)))
 
-  pub gone_more : f.reads c ≤ raised (f.reads b) (all_unread (get_or now n d).layout (f.size b) (get_or now n d).all - all_unread (get_or now n d).layout (f.size b) new.all) → GoneTo f l (n + 1) a c first (set now n new)
+  pub gone_more : f.reads c ≤ raised (f.reads b) (all_unread (f.size b) (get_or now n d).all - all_unread (f.size b) new.all) → GoneTo f (n + 1) a c first (set now n new)
   gone_more done =
-      let here = subst (λ (m : ℕ). f.reads c ≤ raised (f.reads b) (all_unread l m (get_or now n d).all - all_unread l m new.all)) g.keeps.size
-      (subst (λ (k : Layout). f.reads c ≤ raised (f.reads b) (all_unread k (f.size b) (get_or now n d).all - all_unread k (f.size b) new.all)) layout_is done) in
+      let here = subst (λ (m : ℕ). f.reads c ≤ raised (f.reads b) (all_unread m (get_or now n d).all - all_unread m new.all)) g.keeps.size done in
       record {
         long = length-set now n new ∙ g.long;
         each = each_on;
         others = others_on;
-        reads = omega (arith, here, less, g.reads, g.unread, sum_on (unread l (f.size a)), sum_less (unread l (f.size a)));
+        reads = omega (arith, here, less, g.reads, g.unread, sum_on (unread (f.size a)), sum_less (unread (f.size a)));
         unread = unread_on;
         keeps = file_kept g.keeps through.keeps;
       }
 
-  pub gone_stops : ListsGo f l a c first (set now n new)
+  pub gone_stops : ListsGo f a c first (set now n new)
   gone_stops =
-      let here = subst (λ (m : ℕ). f.reads c ≤ raised (f.reads b) (all_unread l m (get_or now n d).all - all_unread l m new.all + all_reading l m new.all)) g.keeps.size
-      (subst (λ (k : Layout). f.reads c ≤ raised (f.reads b) (all_unread k (f.size b) (get_or now n d).all - all_unread k (f.size b) new.all + all_reading k (f.size b) new.all)) layout_is through.reads) in
+      let here = subst (λ (m : ℕ). f.reads c ≤ raised (f.reads b) (all_unread m (get_or now n d).all - all_unread m new.all + all_reading m new.all)) g.keeps.size through.reads in
       record {
         long = length-set now n new ∙ g.long;
         each = each_on;
@@ -102,10 +99,10 @@ module _ {F : Type 0} {f : file.Ghosts F} (l : Layout) (n : ℕ) (a b c : F) (fi
           less,
           g.reads,
           g.unread,
-          sum_on (unread l (f.size a)),
-          sum_less (unread l (f.size a)),
-          sum_on (reading l (f.size a)),
-          sum_less (reading l (f.size a)),
+          sum_on (unread (f.size a)),
+          sum_less (unread (f.size a)),
+          sum_on (reading (f.size a)),
+          sum_less (reading (f.size a)),
         );
         unread = unread_on;
         keeps = file_kept g.keeps through.keeps;
@@ -121,16 +118,12 @@ first_more P n first now d new lt others one each j e inside = elim (cases_eq j 
   | inr other ↦ subst (P (get_or first j e)) (sym (get_or-set_other now n j new e other)) (each j e (omega (arith, inside, other)))
 ]
 
-pub layout_there : {F : Type 0} {f : file.Ghosts F} (l : Layout) (n : ℕ) (a b : F) (first now : List ListSeen) (d : ListSeen) → GoneTo f l n a b first now → All (λ (x : ListSeen). x.layout ≡ l) first → n < length now → (get_or now n d).layout ≡ l
-layout_there l n a b first now d g layouts lt = let inside : n < length first = omega (arith, lt, g.long) in ap (λ (x : ListSeen). x.layout) (g.others n d (omega arith)) ∙ layouts n d inside
-
 -- the list at hand stands as at first
-pub stands_there : (l : Layout) (bytes : List ℕ) (n : ℕ) (first now : List ListSeen) (d : ListSeen) → n < length now → length now ≡ length first → ((j : ℕ) (e : ListSeen) → n ≤ j → get_or now j e ≡ get_or first j e)
-    → (get_or now n d).layout ≡ l → All (Stands l bytes) (lanes_of first) → All (Stands (get_or now n d).layout bytes) (get_or now n d).all
-stands_there l bytes n first now d lt long others is stands =
+pub stands_there : (bytes : List ℕ) (n : ℕ) (first now : List ListSeen) (d : ListSeen) → n < length now → length now ≡ length first → ((j : ℕ) (e : ListSeen) → n ≤ j → get_or now j e ≡ get_or first j e)
+    → All (Stands bytes) (lanes_of first) → All (Stands bytes) (get_or now n d).all
+stands_there bytes n first now d lt long others stands =
     let inside : n < length first = omega (arith, lt, long) in
-    subst (λ (k : Layout). All (Stands k bytes) (get_or now n d).all) (sym is)
-    (subst (λ (x : ListSeen). All (Stands l bytes) x.all) (sym (others n d (omega arith))) (flat_all (Stands l bytes) first stands n d inside))
+    subst (λ (x : ListSeen). All (Stands bytes) x.all) (sym (others n d (omega arith))) (flat_all (Stands bytes) first stands n d inside)
 
-pub go_not : {F : Type 0} {f : file.Ghosts F} (l : Layout) (a : F) (lists : List ListSeen) → ListsGo f l a a lists lists
-go_not l a lists = gone_all l 0 a a lists lists (gone_none l a lists)
+pub go_not : {F : Type 0} {f : file.Ghosts F} (a : F) (lists : List ListSeen) → ListsGo f a a lists lists
+go_not a lists = gone_all 0 a a lists lists (gone_none a lists)

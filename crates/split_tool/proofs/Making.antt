@@ -27,7 +27,7 @@ use Rattle.page_pool.specs.Fresh.{IsFresh}
 use Rattle.page_pool.specs.declared.lane.Lane.{Lane}
 use Rattle.page_write.specs.Placed.{data_of}
 use Rattle.event_cursor.specs.Standing.{Stands}
-use Rattle.time_merge.specs.LaneRows.{parts_of}
+use Rattle.time_merge.specs.LaneRows.{HasLayout, parts_of}
 use Rattle.time_merge.proofs.LaneLaws.{after_above}
 use Rattle.time_merge.proofs.Starting.{fresh_stands}
 use Rattle.time_merge.specs.declared.ending.End.{End}
@@ -78,16 +78,16 @@ stored_is old1 (Some files) new w0 w name name1 content e n empty gained stores 
 
 pub finished : (header : Header) (file : List ℕ) (rules : Rules) (name name1 : List ℕ) (first mid now : List ListSeen) (table : List Part) (old old1 new : Option NamedFiles) (w0 w : Option (List ℕ)) (ends : Ends)
     → old1 ≡ old → name1 ≡ name → IsEmptySink old w0 → Stores old1 new name1 w → Prepared header file rules first mid table ends
-    → Written header file table (owns (lanes_of mid) (taken_of header.layout file rules (lanes_of first))) (record { lanes = lanes_of mid; written = w0 }) (record { lanes = lanes_of now; written = w })
+    → Written header file table (owns (lanes_of mid) (taken_of file rules (lanes_of first))) (record { lanes = lanes_of mid; written = w0 }) (record { lanes = lanes_of now; written = w })
     → Made (record { header = header; rules = rules; name = name }) file (record { lanes = lanes_of first; files = old }) (record { lanes = lanes_of now; files = new }) ends
 unfolding file_text
 finished header file rules name name1 first mid now table old old1 new w0 w ends e n empty stores p written =
-    let lists = lists_of header.cpus (taken_of header.layout file rules (lanes_of first)) in
-    let content : front_text header table ++ data_of header.layout (owns (lanes_of mid) (taken_of header.layout file rules (lanes_of first))) ≡ front_text header (table_of header lists) ++ data_of header.layout lists =
+    let lists = lists_of header.cpus (taken_of file rules (lanes_of first)) in
+    let content : front_text header table ++ data_of header.layout (owns (lanes_of mid) (taken_of file rules (lanes_of first))) ≡ front_text header (table_of header lists) ++ data_of header.layout lists =
     ap (λ (bytes : List ℕ). front_text header table ++ bytes) p.bytes ∙ ap (λ (ps : List Part). front_text header ps ++ data_of header.layout lists) p.table_is
     ∙ ap (λ (front : List ℕ). front ++ data_of header.layout lists) (front_wrapped header (table_of header lists)) in
     record {
-      left = left_still header.layout file rules (lanes_of first) (lanes_of first) (lanes_of mid) (lanes_of now) ends refl written.rows written.stands p.left;
+      left = left_still file rules (lanes_of first) (lanes_of first) (lanes_of mid) (lanes_of now) ends refl written.rows written.stands p.left;
       stored = stored_is old1 old new w0 w name name1 _ e n empty (subst (Gained w0 w) content written.gained) stores;
     }
 
@@ -137,26 +137,26 @@ few_lanes cpus lanes rise below =
 -- FILE AFTER FILE
 
 pub record Progress (header : Header) (base : List ℕ) (file : List ℕ) (rules : Rules) (news : List NewFile) (bad : Option CutPlace) (number : ℕ) (now : List Lane) (old new : Option NamedFiles) : Type 0 where
-  pub stands : All (Stands header.layout file) now
-  pub stage : Stages news (files_from header base number (files_of rules (lists_left header.layout file rules now))) old new
+  pub stands : All (Stands file) now
+  pub stage : Stages news (files_from header base number (files_of rules (lists_left file rules now))) old new
   pub small : length file < 2 ^ 64
-  pub bad_is : bad_left header.layout file rules now ≡ bad
-  pub counted : length news + 1 ≡ number + length (files_from header base number (files_of rules (lists_left header.layout file rules now)))
-  pub few : number + length (joined_lists (lists_left header.layout file rules now)) ≤ 2 ^ 75
+  pub bad_is : bad_left file rules now ≡ bad
+  pub counted : length news + 1 ≡ number + length (files_from header base number (files_of rules (lists_left file rules now)))
+  pub few : number + length (joined_lists (lists_left file rules now)) ≤ 2 ^ 75
 
-pub progress_none : (header : Header) (base : List ℕ) (rules : Rules) (file : List ℕ) (first now : List Lane) (old : Option NamedFiles) → IsHeader header → CpusRise (parts_of first) → All (λ (a : Lane). a.cpu < header.cpus) first
-    → All (λ (a : Lane). IsFresh a.cursor) first → parts_of now ≡ parts_of first → length file < 2 ^ 64 → Started header.layout file rules first now
+pub progress_none : (header : Header) (base : List ℕ) (rules : Rules) (file : List ℕ) (first now : List Lane) (old : Option NamedFiles) → IsHeader header → All (HasLayout header.layout) first → All (HasLayout header.layout) now → CpusRise (parts_of first) → All (λ (a : Lane). a.cpu < header.cpus) first
+    → All (λ (a : Lane). IsFresh a.cursor) first → parts_of now ≡ parts_of first → length file < 2 ^ 64 → Started file rules first now
     → Progress header base file rules (new_files rules base header file (parts_of first)) (bad_reached rules header.layout file (parts_of first)) 1 now old old
-progress_none header base rules file first now old allowed rise cpus fresh parts small s =
+progress_none header base rules file first now old allowed layouts layouts_now rise cpus fresh parts small s =
     let l = header.layout in
-    let lists : lists_left l file rules now ≡ map (left_in rules) (lists_to_cut rules l file (parts_of first)) = started_lists l file rules first now fresh s in
-    let items : files_of rules (lists_left l file rules now) ≡ file_items rules l file (parts_of first) = ap (files_of rules) lists in
-    let news : new_files rules base header file (parts_of first) ≡ files_from header base 1 (files_of rules (lists_left l file rules now)) = ap (files_from header base 1) (sym items) in
+    let lists : lists_left file rules now ≡ map (left_in rules) (lists_to_cut rules l file (parts_of first)) = started_lists l file rules first now layouts fresh s in
+    let items : files_of rules (lists_left file rules now) ≡ file_items rules l file (parts_of first) = ap (files_of rules) lists in
+    let news : new_files rules base header file (parts_of first) ≡ files_from header base 1 (files_of rules (lists_left file rules now)) = ap (files_from header base 1) (sym items) in
     let layout = carried header.layout in
     let lanes : length first ≤ header.cpus = few_lanes header.cpus first rise cpus in
-    let few : length (joined_lists (lists_left l file rules now)) ≤ length first * length file =
+    let few : length (joined_lists (lists_left file rules now)) ≤ length first * length file =
     let cut = cut_few l file rules (parts_of first) layout in
-    let some : length (joined_lists (lists_left l file rules now)) ≡ length (joined_lists (map (left_in rules) (lists_to_cut rules l file (parts_of first)))) = ap (λ (xss : List (List Keyed)). length (joined_lists xss)) lists in
+    let some : length (joined_lists (lists_left file rules now)) ≡ length (joined_lists (map (left_in rules) (lists_to_cut rules l file (parts_of first)))) = ap (λ (xss : List (List Keyed)). length (joined_lists xss)) lists in
     let long : length (parts_of first) * length file ≡ length first * length file = ap (λ (n : ℕ). n * length file) (length-map first (λ (a : Lane). (a.cpu, a.part))) in
     omega (arith, some, left_few rules (lists_to_cut rules l file (parts_of first)), cut, long) in
     let most_lanes : length first ≤ 1024 = omega (arith, lanes, allowed.cpus) in
@@ -167,7 +167,7 @@ progress_none header base rules file first now old allowed rise cpus fresh parts
       stage = subst (λ (more : List NewFile). Stages (new_files rules base header file (parts_of first)) more old old) news (stages_none (new_files rules base header file (parts_of first)) old);
       small = small;
       counted = omega (arith, ap (λ (fs : List NewFile). length fs) news);
-      bad_is = started_bad l file rules first now fresh parts s;
+      bad_is = started_bad l file rules first now layouts layouts_now fresh parts s;
       few = omega (arith, few, most);
     }
 
@@ -175,13 +175,12 @@ module _ (header : Header) (base : List ℕ) (file : List ℕ) (rules : Rules) (
   pub progress_more : (ends : Ends) → IsUnit rules.unit → (ends.more && rules.repeat) ≡ true → Made (record { header = header; rules = rules; name = file_name base number }) file (record { lanes = now; files = mid }) (record { lanes = later; files = new }) ends
       → Progress header base file rules news bad number now old mid → Progress header base file rules news bad (number + 1) later old new
   progress_more ends unit more m p =
-      let l = header.layout in
-      let lists = lists_left l file rules now in
+      let lists = lists_left file rules now in
       let both = and_parts ends.more rules.repeat more in
       let some : is_some_left (joined_lists (behind_file rules.unit lists)) ≡ true = ap (λ (xss : List (List Keyed)). is_some_left (joined_lists xss)) (sym m.left.left) ∙ sym m.left.more ∙ both.0 in
-      let rest : files_behind rules lists ≡ files_of rules (lists_left l file rules later) = goes_on rules lists unit both.1 some ∙ ap (files_of rules) (sym m.left.left) in
+      let rest : files_behind rules lists ≡ files_of rules (lists_left file rules later) = goes_on rules lists unit both.1 some ∙ ap (files_of rules) (sym m.left.left) in
       let fewer : length (joined_lists (behind_file rules.unit lists)) < length (joined_lists lists) = fewer_left rules.unit lists unit (some_length _ some) in
-      let long : length (joined_lists (lists_left l file rules later)) ≡ length (joined_lists (behind_file rules.unit lists)) = ap (λ (xss : List (List Keyed)). length (joined_lists xss)) m.left.left in
+      let long : length (joined_lists (lists_left file rules later)) ≡ length (joined_lists (behind_file rules.unit lists)) = ap (λ (xss : List (List Keyed)). length (joined_lists xss)) m.left.left in
       record {
         stands = m.left.stands;
         stage = subst (λ (fs : List (List Keyed)). Stages news (files_from header base (number + 1) fs) old new) rest (stages_more news _ _ old mid new m.stored p.stage);
@@ -194,8 +193,7 @@ module _ (header : Header) (base : List ℕ) (file : List ℕ) (rules : Rules) (
   pub progress_last : (ends : Ends) (result : End) (counts now_counts : Counts) (asked asked_now : List (List ℕ)) → (ends.more && rules.repeat) ≡ false → result ≡ end_by ends.bad → Made (record { header = header; rules = rules; name = file_name base number }) file (record { lanes = now; files = mid }) (record { lanes = later; files = new }) ends
       → Progress header base file rules news bad number now old mid → IsSplit news (end_by bad) (record { files = old; counts = counts; requested = asked }) (record { files = new; counts = now_counts; requested = asked_now }) result
   progress_last ends result counts now_counts asked asked_now more is m p =
-      let l = header.layout in
-      let lists = lists_left l file rules now in
+      let lists = lists_left file rules now in
       let none : (is_some_left (joined_lists (behind_file rules.unit lists)) && rules.repeat) ≡ false =
       ap (λ (xss : List (List Keyed)). is_some_left (joined_lists xss) && rules.repeat) (sym m.left.left) ∙ ap (λ (b : Bool). b && rules.repeat) (sym m.left.more) ∙ more in
       let stored : Stages news [] old new = subst (λ (fs : List (List Keyed)). Stages news (files_from header base (number + 1) fs) old new) (no_files rules lists none) (stages_more news _ _ old mid new m.stored p.stage) in
@@ -206,16 +204,16 @@ module _ (header : Header) (base : List ℕ) (file : List ℕ) (rules : Rules) (
       ended_by before after (Some place) b result is same s = subst (λ (e : End). IsSplit news (end_by b) before after e) (sym is) (ap end_by same, s)
 
   none_behind : (ends : Ends) → (ends.more && rules.repeat) ≡ false → Made (record { header = header; rules = rules; name = file_name base number }) file (record { lanes = now; files = mid }) (record { lanes = later; files = new }) ends
-      → files_behind rules (lists_left header.layout file rules now) ≡ []
+      → files_behind rules (lists_left file rules now) ≡ []
   none_behind ends more m =
-      no_files rules (lists_left header.layout file rules now)
+      no_files rules (lists_left file rules now)
       (ap (λ (xss : List (List Keyed)). is_some_left (joined_lists xss) && rules.repeat) (sym m.left.left) ∙ ap (λ (b : Bool). b && rules.repeat) (sym m.left.more) ∙ more)
 
   -- the last file is that of this number
   pub last_counted : (ends : Ends) → (ends.more && rules.repeat) ≡ false → Made (record { header = header; rules = rules; name = file_name base number }) file (record { lanes = now; files = mid }) (record { lanes = later; files = new }) ends
       → Progress header base file rules news bad number now old mid → length news ≡ number
   last_counted ends more m p =
-      let none : length (files_from header base (number + 1) (files_behind rules (lists_left header.layout file rules now))) ≡ 0 =
+      let none : length (files_from header base (number + 1) (files_behind rules (lists_left file rules now))) ≡ 0 =
       ap (λ (fs : List (List Keyed)). length (files_from header base (number + 1) fs)) (none_behind ends more m) in
       omega (arith, p.counted, none)
 
@@ -278,5 +276,5 @@ still_cut rules header first now work work_now long goes for can = record {
   lent = for;
 }
 
-pub fresh_stand : (l : Layout) (file : List ℕ) (lanes : List Lane) → All (λ (a : Lane). IsFresh a.cursor) lanes → All (Stands l file) lanes
-fresh_stand l file lanes f = All-weaker (λ (a : Lane). IsFresh a.cursor) (Stands l file) (λ a fresh. fresh_stands l file a fresh) lanes f
+pub fresh_stand : (file : List ℕ) (lanes : List Lane) → All (λ (a : Lane). IsFresh a.cursor) lanes → All (Stands file) lanes
+fresh_stand file lanes f = All-weaker (λ (a : Lane). IsFresh a.cursor) (Stands file) (λ a fresh. fresh_stands file a fresh) lanes f

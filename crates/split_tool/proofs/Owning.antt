@@ -3,7 +3,6 @@ use Rattle.std.proofs.Common.{◌≡◌, ℕ, zero, suc, ◌+◌, ◌<◌, Bool,
 use Rattle.std.specs.List.{All, take_while}
 use Rattle.std.proofs.lemmas.Bool.{cases_Bool, ne_eqb}
 use Rattle.std.proofs.lemmas.List.Elements.{All-nil, All-cons, All-head, All-tail, All-append, All-filter, All-map, All-weaker}
-use Rattle.trace_base.specs.declared.layout.Layout.{Layout}
 use Rattle.subpage.specs.ItemData.{ItemData}
 use Rattle.subpage.specs.Arrangement.{Keyed, CpusRise, key_of, cpu_of, with_key, by_key}
 use Rattle.page_pool.specs.declared.lane.Lane.{Lane}
@@ -88,10 +87,10 @@ IsAfter c a = c < a.cpu
 abbrev IsOf : ℕ → Keyed → Type 0
 IsOf c x = x.cpu ≡ c
 
-rows_not : (l : Layout) (file : List ℕ) (c : ℕ) (lanes : List Lane) → All (IsNotLane c) lanes → All (RowAll (IsNot c)) (rows_of l file lanes)
-rows_not l file c lanes a = All-map (RowAll (IsNot c)) (row_of l file) lanes (λ i d lt.
+rows_not : (file : List ℕ) (c : ℕ) (lanes : List Lane) → All (IsNotLane c) lanes → All (RowAll (IsNot c)) (rows_of file lanes)
+rows_not file c lanes a = All-map (RowAll (IsNot c)) (row_of file) lanes (λ i d lt.
     let x : Lane = get_or lanes i d in
-    All-weaker (IsOf x.cpu) (IsNot c) (λ y e f. a i d lt (sym e ∙ f)) (row_of l file x).items (keyed_own x.cpu _ (left_of l file x)))
+    All-weaker (IsOf x.cpu) (IsNot c) (λ y e f. a i d lt (sym e ∙ f)) (row_of file x).items (keyed_own x.cpu _ (left_of file x)))
 
 none_with : (c : ℕ) (xs : List Keyed) → All (IsNot c) xs → with_key cpu_of c xs ≡ []
 none_with c [] a = refl
@@ -101,10 +100,10 @@ pub none_own : (c : ℕ) (xs : List Keyed) → All (IsNot c) xs → items_of_cpu
 none_own c xs a = ap (map (λ (x : Keyed). x.item)) (none_with c xs a)
 
 -- a file takes no items of other processors
-pub none_else : (l : Layout) (file : List ℕ) (rules : Rules) (lanes : List Lane) (c : ℕ) → All (IsNotLane c) lanes → items_of_cpu c (next_file rules.unit (lists_left l file rules lanes)) ≡ []
-none_else l file rules lanes c a =
-    let rows = rows_of l file lanes in
-    none_own c _ (all_next (IsNot c) rules.unit rules.stop (groups rules rows) (all_group (RowAll (IsNot c)) (is_apart rules) rows (rows_not l file c lanes a)))
+pub none_else : (file : List ℕ) (rules : Rules) (lanes : List Lane) (c : ℕ) → All (IsNotLane c) lanes → items_of_cpu c (next_file rules.unit (lists_left file rules lanes)) ≡ []
+none_else file rules lanes c a =
+    let rows = rows_of file lanes in
+    none_own c _ (all_next (IsNot c) rules.unit rules.stop (groups rules rows) (all_group (RowAll (IsNot c)) (is_apart rules) rows (rows_not file c lanes a)))
 
 -- WHERE EACH LANE IS A LIST
 
@@ -114,31 +113,31 @@ later_not a lanes r = All-weaker (IsAfter a.cpu) (IsNotLane a.cpu) (λ x lt e. o
 abbrev single : Row Keyed → List (Row Keyed)
 single row = row ∷ []
 
-abbrev own_piece : Layout → List ℕ → PieceUnit → Option Moment → Lane → List Keyed
-own_piece l file unit stop a = piece unit (left_in_rows stop (row_of l file a ∷ []))
+abbrev own_piece : List ℕ → PieceUnit → Option Moment → Lane → List Keyed
+own_piece file unit stop a = piece unit (left_in_rows stop (row_of file a ∷ []))
 
-mine_of : (l : Layout) (file : List ℕ) (unit : PieceUnit) (stop : Option Moment) (a : Lane) → All (IsOf a.cpu) (own_piece l file unit stop a)
-mine_of l file unit stop a =
+mine_of : (file : List ℕ) (unit : PieceUnit) (stop : Option Moment) (a : Lane) → All (IsOf a.cpu) (own_piece file unit stop a)
+mine_of file unit stop a =
     let P : Keyed → Type 0 = IsOf a.cpu in
-    let row = row_of l file a in
-    let own : All (RowAll P) (row ∷ []) = All-cons (RowAll P) row [] (keyed_own a.cpu _ (left_of l file a)) (All-nil (RowAll P)) in
+    let row = row_of file a in
+    let own : All (RowAll P) (row ∷ []) = All-cons (RowAll P) row [] (keyed_own a.cpu _ (left_of file a)) (All-nil (RowAll P)) in
     all_piece P unit (left_in_rows stop (row ∷ [])) (all_up P stop (come_of (row ∷ [])) (all_come P (row ∷ []) own))
 
-pub own_apart : (l : Layout) (file : List ℕ) (unit : PieceUnit) (stop : Option Moment) (lanes : List Lane) (i : ℕ) (d : Lane) → CpusRise (parts_of lanes) → i < length lanes
-    → items_of_cpu (get_or lanes i d).cpu (next_file unit (map (left_in_rows stop) (map single (rows_of l file lanes)))) ≡ items_of_cpu (get_or lanes i d).cpu (own_piece l file unit stop (get_or lanes i d))
-own_apart l file unit stop [] i d rise lt = absurd (omega (arith, lt))
-own_apart l file unit stop (a ∷ lanes) zero d rise lt =
-    let here = own_piece l file unit stop a in
-    let rows = rows_of l file lanes in
+pub own_apart : (file : List ℕ) (unit : PieceUnit) (stop : Option Moment) (lanes : List Lane) (i : ℕ) (d : Lane) → CpusRise (parts_of lanes) → i < length lanes
+    → items_of_cpu (get_or lanes i d).cpu (next_file unit (map (left_in_rows stop) (map single (rows_of file lanes)))) ≡ items_of_cpu (get_or lanes i d).cpu (own_piece file unit stop (get_or lanes i d))
+own_apart file unit stop [] i d rise lt = absurd (omega (arith, lt))
+own_apart file unit stop (a ∷ lanes) zero d rise lt =
+    let here = own_piece file unit stop a in
+    let rows = rows_of file lanes in
     let more = next_file unit (map (left_in_rows stop) (map single rows)) in
-    let none : items_of_cpu a.cpu more ≡ [] = none_own a.cpu more (all_next (IsNot a.cpu) unit stop (map single rows) (all_single (RowAll (IsNot a.cpu)) rows (rows_not l file a.cpu lanes (later_not a lanes rise)))) in
+    let none : items_of_cpu a.cpu more ≡ [] = none_own a.cpu more (all_next (IsNot a.cpu) unit stop (map single rows) (all_single (RowAll (IsNot a.cpu)) rows (rows_not file a.cpu lanes (later_not a lanes rise)))) in
     own_append a.cpu here more ∙ ap (λ (xs : List ItemData). items_of_cpu a.cpu here ++ xs) none ∙ append-nil (items_of_cpu a.cpu here)
-own_apart l file unit stop (a ∷ lanes) (suc i) d rise lt =
-    let here = own_piece l file unit stop a in
-    let rows = rows_of l file lanes in
+own_apart file unit stop (a ∷ lanes) (suc i) d rise lt =
+    let here = own_piece file unit stop a in
+    let rows = rows_of file lanes in
     let more = next_file unit (map (left_in_rows stop) (map single rows)) in
     let c = (get_or lanes i d).cpu in
     let higher : a.cpu < c = after_above a lanes rise i d (omega (arith, lt)) in
-    let none : items_of_cpu c here ≡ [] = none_own c here (All-weaker (IsOf a.cpu) (IsNot c) (λ x e f. omega (arith, e, f, higher)) here (mine_of l file unit stop a)) in
+    let none : items_of_cpu c here ≡ [] = none_own c here (All-weaker (IsOf a.cpu) (IsNot c) (λ x e f. omega (arith, e, f, higher)) here (mine_of file unit stop a)) in
     own_append c here more ∙ ap (λ (xs : List ItemData). xs ++ items_of_cpu c more) none
-    ∙ own_apart l file unit stop lanes i d (rises_tail a lanes rise) (omega (arith, lt))
+    ∙ own_apart file unit stop lanes i d (rises_tail a lanes rise) (omega (arith, lt))

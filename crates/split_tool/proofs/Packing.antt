@@ -54,7 +54,7 @@ data_nil l = refl
 
 -- the first n lists were packed
 pub record ListsPackedTo (l : Layout) (file : List ℕ) (n : ℕ) (first now : List ListSeen) (taken : List Keyed) (old new : Option (List ℕ)) : Type 0 where
-  pub each : (j : ℕ) (d : ListSeen) → j < n → StaysOn l file (get_or first j d) (get_or now j d)
+  pub each : (j : ℕ) (d : ListSeen) → j < n → StaysOn file (get_or first j d) (get_or now j d)
   pub gained : Gained old new (data_of l (owns (lanes_of (take n first)) taken))
 
 pub packed_none : (l : Layout) (file : List ℕ) (lists : List ListSeen) (taken : List Keyed) (old : Option (List ℕ)) → ListsPackedTo l file 0 lists lists taken old old
@@ -77,15 +77,15 @@ packed_more l k file n first now d new taken begin old now_written lt long other
     let more : data_of l (owns (lanes_of (take (n + 1) first)) taken) ≡ data_of l (owns (lanes_of (take n first)) taken) ++ data_of l (owns x.all taken) =
     ap (λ (ls : List ListSeen). data_of l (owns (lanes_of ls) taken)) firsts ∙ data_push l (take n first) x taken in
     record {
-      each = first_more (StaysOn l file) n first now d new lt others (record { rows = here.rows; stands = λ before. here.stands }) p.each;
+      each = first_more (StaysOn file) n first now d new lt others (record { rows = here.rows; stands = λ before. here.stands }) p.each;
       gained = gained_both begin old now_written (data_of l (owns (lanes_of (take n first)) taken)) (data_of l (owns x.all taken)) p.gained here.gained ∙ ap (append_known begin) (sym more);
     }
 
-pub lists_packed : (l : Layout) (file : List ℕ) (n : ℕ) (first now : List ListSeen) (taken : List Keyed) (old new : Option (List ℕ)) → length now ≡ length first → length first ≤ n → All (Stands l file) (lanes_of first)
+pub lists_packed : (l : Layout) (file : List ℕ) (n : ℕ) (first now : List ListSeen) (taken : List Keyed) (old new : Option (List ℕ)) → length now ≡ length first → length first ≤ n → All (Stands file) (lanes_of first)
     → ListsPackedTo l file n first now taken old new
     → PackedAll l file (owns (lanes_of first) taken) (record { lanes = lanes_of first; written = old }) (record { lanes = lanes_of now; written = new })
 lists_packed l file n first now taken old new long enough stands p =
-    let stay = all_stay l file n first now long enough p.each in
+    let stay = all_stay file n first now long enough p.each in
     record {
       stands = stay.stands stands;
       rows = stay.rows;
@@ -103,8 +103,8 @@ numbers_flat [] (b ∷ now) long each = absurd (omega (arith, long))
 numbers_flat (a ∷ first) [] long each = absurd (omega (arith, long))
 numbers_flat (a ∷ first) (b ∷ now) long each =
     map-append _ b.all (lanes_of now)
-    ∙ ap (λ (ns : List (Part × LaneState × ℕ)). ns ++ numbers_of (lanes_of now)) (each 0 a (omega arith))
-    ∙ ap (λ (ns : List (Part × LaneState × ℕ)). numbers_of a.all ++ ns) (numbers_flat first now (omega (arith, long)) (each_tail SameNumbers a b first now each))
+    ∙ ap (λ (ns : List (Layout × Part × LaneState × ℕ)). ns ++ numbers_of (lanes_of now)) (each 0 a (omega arith))
+    ∙ ap (λ (ns : List (Layout × Part × LaneState × ℕ)). numbers_of a.all ++ ns) (numbers_flat first now (omega (arith, long)) (each_tail SameNumbers a b first now each))
     ∙ sym (map-append _ a.all (lanes_of first))
 
 pub all_numbers : (n : ℕ) (first now : List ListSeen) → length now ≡ length first → length first ≤ n → ((j : ℕ) (d : ListSeen) → j < n → SameNumbers (get_or first j d) (get_or now j d)) → numbers_of (lanes_of now) ≡ numbers_of (lanes_of first)
@@ -131,22 +131,22 @@ held_there before now n new (code.Malformed cut) lt stop =
 
 -- WHAT IS READ
 
-pub packing_more : (l k : Layout) (len now_len : ℕ) (n : ℕ) (first now : List ListSeen) (d : ListSeen) (start mid after : ℕ) → n < length now → length now ≡ length first
-    → ((j : ℕ) (e : ListSeen) → n ≤ j → get_or now j e ≡ get_or first j e) → k ≡ l → now_len ≡ len → mid ≤ raised start (lists_packing l len (take n first))
-    → after ≤ raised mid (all_packing k now_len (get_or now n d).all (get_or now n d).fronts (get_or now n d).tallies) → after ≤ raised start (lists_packing l len (take (n + 1) first))
-packing_more l k len now_len n first now d start mid after lt long others is same read more =
+pub packing_more : (len now_len : ℕ) (n : ℕ) (first now : List ListSeen) (d : ListSeen) (start mid after : ℕ) → n < length now → length now ≡ length first
+    → ((j : ℕ) (e : ListSeen) → n ≤ j → get_or now j e ≡ get_or first j e) → now_len ≡ len → mid ≤ raised start (lists_packing len (take n first))
+    → after ≤ raised mid (all_packing now_len (get_or now n d).all (get_or now n d).fronts (get_or now n d).tallies) → after ≤ raised start (lists_packing len (take (n + 1) first))
+packing_more len now_len n first now d start mid after lt long others same read more =
     let x = get_or now n d in
     let inside : n < length first = omega (arith, lt, long) in
-    let here : after ≤ raised mid (all_packing l len x.all x.fronts x.tallies) =
-    subst (λ (m : Layout). after ≤ raised mid (all_packing m len x.all x.fronts x.tallies)) is (subst (λ (m : ℕ). after ≤ raised mid (all_packing k m x.all x.fronts x.tallies)) same more) in
+    let here : after ≤ raised mid (all_packing len x.all x.fronts x.tallies) =
+    subst (λ (m : ℕ). after ≤ raised mid (all_packing m x.all x.fronts x.tallies)) same more in
     let firsts : take (n + 1) first ≡ take n first ++ x ∷ [] =
     ap (take (n + 1)) (sym (set-get_or first n d)) ∙ take_more_set first n (get_or first n d) inside ∙ ap (λ (y : ListSeen). take n first ++ y ∷ []) (sym (others n d (omega arith))) in
-    let h : ListSeen → ℕ = λ y. all_packing l len y.all y.fronts y.tallies in
-    let all : lists_packing l len (take (n + 1) first) ≡ lists_packing l len (take n first ++ x ∷ []) = ap (lists_packing l len) firsts in
+    let h : ListSeen → ℕ = λ y. all_packing len y.all y.fronts y.tallies in
+    let all : lists_packing len (take (n + 1) first) ≡ lists_packing len (take n first ++ x ∷ []) = ap (lists_packing len) firsts in
     omega (arith, read, here, all, sum_by-append h (take n first) (x ∷ []), sum_by-cons h x [])
 
-pub packing_all : (l : Layout) (len : ℕ) (n : ℕ) (first : List ListSeen) (start after : ℕ) → after ≤ raised start (lists_packing l len (take n first)) → after ≤ raised start (lists_packing l len first)
-packing_all l len n first start after read = omega (arith, read, sum_by-take-le (λ (y : ListSeen). all_packing l len y.all y.fronts y.tallies) first n)
+pub packing_all : (len : ℕ) (n : ℕ) (first : List ListSeen) (start after : ℕ) → after ≤ raised start (lists_packing len (take n first)) → after ≤ raised start (lists_packing len first)
+packing_all len n first start after read = omega (arith, read, sum_by-take-le (λ (y : ListSeen). all_packing len y.all y.fronts y.tallies) first n)
 
 -- lists that keep all but where their lanes stand
 pub kept_more : (n : ℕ) (first now : List ListSeen) (d new : ListSeen) → n < length now → ((j : ℕ) (e : ListSeen) → n ≤ j → get_or now j e ≡ get_or first j e) → KeepsList (get_or now n d) new
@@ -161,11 +161,11 @@ kept_more n first now d new lt others one each j e = elim (cases_eq j n) [
 pub layout_at : (l : Layout) (n : ℕ) (first now : List ListSeen) (d : ListSeen) → length now ≡ length first → ((j : ℕ) (e : ListSeen) → n ≤ j → get_or now j e ≡ get_or first j e) → All (λ (x : ListSeen). x.layout ≡ l) first → n < length now → (get_or now n d).layout ≡ l
 layout_at l n first now d long others layouts lt = let inside : n < length first = omega (arith, lt, long) in ap (λ (x : ListSeen). x.layout) (others n d (omega arith)) ∙ layouts n d inside
 
-pub fronts_there : (l : Layout) (file : List ℕ) (n : ℕ) (first now : List ListSeen) (d : ListSeen) (taken : List Keyed) → n < length now → length now ≡ length first → ((j : ℕ) (e : ListSeen) → n ≤ j → get_or now j e ≡ get_or first j e)
-    → (get_or now n d).layout ≡ l → AreFrontsOf l file first taken → OwnFronts (get_or now n d).layout file (get_or now n d) taken
-fronts_there l file n first now d taken lt long others is fronts =
+pub fronts_there : (file : List ℕ) (n : ℕ) (first now : List ListSeen) (d : ListSeen) (taken : List Keyed) → n < length now → length now ≡ length first → ((j : ℕ) (e : ListSeen) → n ≤ j → get_or now j e ≡ get_or first j e)
+    → AreFrontsOf file first taken → OwnFronts file (get_or now n d) taken
+fronts_there file n first now d taken lt long others fronts =
     let inside : n < length first = omega (arith, lt, long) in
-    subst (λ (k : Layout). OwnFronts k file (get_or now n d) taken) (sym is) (subst (λ (x : ListSeen). OwnFronts l file x taken) (sym (others n d (omega arith))) (fronts n d inside))
+    subst (λ (x : ListSeen). OwnFronts file x taken) (sym (others n d (omega arith))) (fronts n d inside)
 
 pub all_kept : (first now : List ListSeen) → EachList KeepsList first now → EachList Kept first now
 all_kept first now keeps j d lt = let k = keeps j d lt in (ap (λ (x : ListSeen). x.layout) k.same, k.parts)

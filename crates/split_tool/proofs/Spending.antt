@@ -5,13 +5,15 @@ use Rattle.std.proofs.lemmas.Bool.{cases_Bool, cond-true, cond-false, eq-eqb}
 use Rattle.std.proofs.lemmas.List.Elements.{All-head, All-tail}
 use Rattle.std.proofs.lemmas.List.Sums.{sum_by-cons}
 use Rattle.trace_base.specs.declared.layout.Layout.{Layout}
+use Rattle.trace_base.proofs.Layouts.{carried}
 use Rattle.trace_base.specs.declared.part.Part.{Part}
 use Rattle.page_pool.specs.Fresh.{IsFresh}
 use Rattle.page_pool.specs.declared.lane.Lane.{Lane}
+use Rattle.page_pool.proofs.Keeping.{by_both}
 use Rattle.page_pool.specs.declared.cursor.LaneState.{LaneState}
 use Rattle.page_pool.specs.declared.cursor.LaneState.TheVariants.{Fresh, Held, Ended, Malformed}
 use Rattle.event_cursor.specs.Places.{place_in}
-use Rattle.event_cursor.specs.Standing.{IsInOrder, held_left}
+use Rattle.event_cursor.specs.Standing.{held_left}
 use Rattle.event_cursor.specs.Unread.{first_unread, size_from, unread}
 use Rattle.event_cursor.specs.declared.places.Place.{Place}
 use Rattle.time_merge.specs.Advancing.{Advances, IsOver}
@@ -28,53 +30,56 @@ first_below Held next = omega arith
 first_below Ended next = omega arith
 first_below Malformed next = omega arith
 
-module _ (l : Layout) (len : ℕ) (some : 0 < l.page) where
+some_page : (l : Layout) → 0 < l.page
+some_page l = omega (arith, (carried l).page_least)
+
+module _ (len : ℕ) where
   -- LANES THAT GO ON
 
-  again_less : (part : Part) (s t : LaneState) (n m : ℕ) → (IsOver s → ⊥) → n ≤ m
+  again_less : (l : Layout) (part : Part) (s t : LaneState) (n m : ℕ) → (IsOver s → ⊥) → n ≤ m
       → size_from l len part (first_again t m) + size_from l len part m ≤ size_from l len part (first_again s n) + size_from l len part n
-  again_less part Fresh t n m going le =
+  again_less l part Fresh t n m going le =
       let below : n - 1 ≤ first_again t m = omega (arith, first_below t m, le) in
-      omega (arith, size_less l len part some n m le, size_less l len part some (n - 1) (first_again t m) below)
-  again_less part Held t n m going le =
+      omega (arith, size_less l len part (some_page l) n m le, size_less l len part (some_page l) (n - 1) (first_again t m) below)
+  again_less l part Held t n m going le =
       let below : n - 1 ≤ first_again t m = omega (arith, first_below t m, le) in
-      omega (arith, size_less l len part some n m le, size_less l len part some (n - 1) (first_again t m) below)
-  again_less part Ended t n m going le = absurd (going tt)
-  again_less part Malformed t n m going le = absurd (going tt)
+      omega (arith, size_less l len part (some_page l) n m le, size_less l len part (some_page l) (n - 1) (first_again t m) below)
+  again_less l part Ended t n m going le = absurd (going tt)
+  again_less l part Malformed t n m going le = absurd (going tt)
 
-  again_is : (a : Lane) (part : Part) → a.part ≡ part → again l len a ≡ size_from l len part (first_again a.cursor.state a.cursor.next) + size_from l len part a.cursor.next
-  again_is a part same = ap (λ (p : Part). size_from l len p (first_again a.cursor.state a.cursor.next) + size_from l len p a.cursor.next) same
+  again_is : (a : Lane) (l : Layout) (part : Part) → a.layout ≡ l → a.part ≡ part → again len a ≡ size_from l len part (first_again a.cursor.state a.cursor.next) + size_from l len part a.cursor.next
+  again_is a l part layout same = by_both (λ k p. size_from k len p (first_again a.cursor.state a.cursor.next) + size_from k len p a.cursor.next) layout same
 
-  pub advances_again : (a b : Lane) → Advances a b → again l len b ≤ again l len a
+  pub advances_again : (a b : Lane) → Advances a b → again len b ≤ again len a
   advances_again a b on = by_state a.cursor.state refl
     where
-      going_less : (IsOver a.cursor.state → ⊥) → again l len b ≤ again l len a
-      going_less going = omega (arith, again_is b a.part on.part, again_less a.part a.cursor.state b.cursor.state a.cursor.next b.cursor.next going on.forward)
+      going_less : (IsOver a.cursor.state → ⊥) → again len b ≤ again len a
+      going_less going = omega (arith, again_is b a.layout a.part on.layout on.part, again_less a.layout a.part a.cursor.state b.cursor.state a.cursor.next b.cursor.next going on.forward)
 
-      over_same : IsOver a.cursor.state → again l len b ≤ again l len a
-      over_same over = let same = ap (again l len) (on.over over) in omega (arith, same)
+      over_same : IsOver a.cursor.state → again len b ≤ again len a
+      over_same over = let same = ap (again len) (on.over over) in omega (arith, same)
 
-      by_state : (s : LaneState) → a.cursor.state ≡ s → again l len b ≤ again l len a
+      by_state : (s : LaneState) → a.cursor.state ≡ s → again len b ≤ again len a
       by_state Fresh is = going_less (λ over. let never : IsOver Fresh = subst IsOver is over in absurd never)
       by_state Held is = going_less (λ over. let never : IsOver Held = subst IsOver is over in absurd never)
       by_state Ended is = over_same (subst IsOver (sym is) tt)
       by_state Malformed is = over_same (subst IsOver (sym is) tt)
 
-  pub all_advances : (first now : List Lane) → length now ≡ length first → ((j : ℕ) (d : Lane) → j < length first → Advances (get_or first j d) (get_or now j d)) → all_again l len now ≤ all_again l len first
+  pub all_advances : (first now : List Lane) → length now ≡ length first → ((j : ℕ) (d : Lane) → j < length first → Advances (get_or first j d) (get_or now j d)) → all_again len now ≤ all_again len first
   all_advances [] [] e on = omega arith
   all_advances [] (b ∷ now) e on = absurd (omega (arith, e))
   all_advances (a ∷ first) [] e on = absurd (omega (arith, e))
   all_advances (a ∷ first) (b ∷ now) e on =
       let rest = all_advances first now (omega (arith, e)) (λ j d lt. on (suc j) d (omega (arith, lt))) in
-      omega (arith, sum_by-cons (again l len) a first, sum_by-cons (again l len) b now, advances_again a b (on 0 a (omega arith)), rest)
+      omega (arith, sum_by-cons (again len) a first, sum_by-cons (again len) b now, advances_again a b (on 0 a (omega arith)), rest)
 
   -- A SECOND PASS
 
-  module _ (part : Part) (page n m : ℕ) (last : n ≡ page + 1) (le : n ≤ m) where
+  module _ (l : Layout) (part : Part) (page n m : ℕ) (last : n ≡ page + 1) (le : n ≤ m) where
     spent_all : (k : ℕ) → page + 1 ≤ k → k ≤ m → size_from l len part page - size_from l len part m + (size_from l len part k + size_from l len part m) ≤ size_from l len part page + size_from l len part n
     spent_all k at below =
         let same = ap (size_from l len part) last in
-        omega (arith, same, size_less l len part some page m (omega (arith, last, le)), size_less l len part some (page + 1) k at)
+        omega (arith, same, size_less l len part (some_page l) page m (omega (arith, last, le)), size_less l len part (some_page l) (page + 1) k at)
 
     spent_by : (t : LaneState) → (t ≡ Fresh → ⊥) → between t (size_from l len part) page m + (size_from l len part (first_again t m) + size_from l len part m) ≤ size_from l len part page + size_from l len part n
     spent_by Fresh ready = absurd (ready refl)
@@ -83,8 +88,8 @@ module _ (l : Layout) (len : ℕ) (some : 0 < l.page) where
     spent_by Held ready = elim (cases_Bool (eqb (page + 1) m)) [
       | inl b ↦
           let none : between Held (size_from l len part) page m ≡ 0 = cond-true _ _ _ b in
-          let less = size_less l len part some n m le in
-          let less2 = size_less l len part some page (m - 1) (omega (arith, last, le)) in
+          let less = size_less l len part (some_page l) n m le in
+          let less2 = size_less l len part (some_page l) page (m - 1) (omega (arith, last, le)) in
           omega (arith, none, less, less2)
       | inr b ↦
           let all : between Held (size_from l len part) page m ≡ size_from l len part page - size_from l len part m = cond-false _ _ _ b in
@@ -93,72 +98,72 @@ module _ (l : Layout) (len : ℕ) (some : 0 < l.page) where
           omega (arith, all, spent)
     ]
 
-  pub packed_again : (first now : Lane) (front : Place) (count : ℕ) → IsInOrder l first → IsReady l first → IsReady l now → Advances first now → front ≡ place_in first → (IsOver first.cursor.state → count ≡ 0)
-      → packing l len now front count + again l len now ≤ again l len first
-  packed_again first now front zero order ready ready_now on place none = omega (arith, advances_again first now on)
-  packed_again first now front (suc count) order ready ready_now on place none = by_state first.cursor.state refl
+  pub packed_again : (first now : Lane) (front : Place) (count : ℕ) → IsReady first → IsReady now → Advances first now → front ≡ place_in first → (IsOver first.cursor.state → count ≡ 0)
+      → packing len now front count + again len now ≤ again len first
+  packed_again first now front zero ready ready_now on place none = omega (arith, advances_again first now on)
+  packed_again first now front (suc count) ready ready_now on place none = by_state first.cursor.state refl
     where
-      never_fresh : (a : Lane) → IsReady l a → a.cursor.state ≡ Fresh → ⊥
-      never_fresh a r is = let fresh : IsReadyIn Fresh (held_left l a) = subst (λ (s : LaneState). IsReadyIn s (held_left l a)) is r in fresh
+      never_fresh : (a : Lane) → IsReady a → a.cursor.state ≡ Fresh → ⊥
+      never_fresh a r is = let fresh : IsReadyIn Fresh (held_left a) = subst (λ (s : LaneState). IsReadyIn s (held_left a)) is r in fresh
 
-      over_none : IsOver first.cursor.state → packing l len now front (suc count) + again l len now ≤ again l len first
+      over_none : IsOver first.cursor.state → packing len now front (suc count) + again len now ≤ again len first
       over_none over = let zero : suc count ≡ 0 = none over in absurd (omega (arith, zero))
 
-      by_state : (s : LaneState) → first.cursor.state ≡ s → packing l len now front (suc count) + again l len now ≤ again l len first
+      by_state : (s : LaneState) → first.cursor.state ≡ s → packing len now front (suc count) + again len now ≤ again len first
       by_state Fresh is = absurd (never_fresh first ready is)
       by_state Ended is = over_none (subst IsOver (sym is) tt)
       by_state Malformed is = over_none (subst IsOver (sym is) tt)
       by_state Held is =
           let page = first.cursor.held in
-          let last : first.cursor.next ≡ page + 1 = (order.held is).next in
-          let spent = spent_by first.part page first.cursor.next now.cursor.next last on.forward now.cursor.state (never_fresh now ready_now) in
+          let last : first.cursor.next ≡ page + 1 = (first.in_order.held is).next in
+          let spent = spent_by first.layout first.part page first.cursor.next now.cursor.next last on.forward now.cursor.state (never_fresh now ready_now) in
           let front_page : front.page ≡ page = ap (λ (p : Place). p.page) place in
-          let pack : packing l len now front (suc count) ≡ between now.cursor.state (size_from l len first.part) page now.cursor.next =
-          ap (λ (p : Part). between now.cursor.state (size_from l len p) front.page now.cursor.next) on.part
-          ∙ ap (λ (k : ℕ). between now.cursor.state (size_from l len first.part) k now.cursor.next) front_page in
+          let pack : packing len now front (suc count) ≡ between now.cursor.state (size_from first.layout len first.part) page now.cursor.next =
+          by_both (λ k p. between now.cursor.state (size_from k len p) front.page now.cursor.next) on.layout on.part
+          ∙ ap (λ (k : ℕ). between now.cursor.state (size_from first.layout len first.part) k now.cursor.next) front_page in
           let first_page : first_again first.cursor.state first.cursor.next ≡ page =
           ap (λ (s : LaneState). first_again s first.cursor.next) is ∙ ap (λ (k : ℕ). k - 1) last ∙ omega arith in
-          let start = ap (size_from l len first.part) first_page in
-          omega (arith, spent, pack, start, again_is now first.part on.part)
+          let start = ap (size_from first.layout len first.part) first_page in
+          omega (arith, spent, pack, start, again_is now first.layout first.part on.layout on.part)
 
   pub all_packed_again : (first now : List Lane) (fronts : List Place) (tallies : List Tally) → length now ≡ length first → length fronts ≡ length first → length tallies ≡ length first
-      → All (IsInOrder l) first → All (IsReady l) first → All (IsReady l) now → ((j : ℕ) (d : Lane) → j < length first → Advances (get_or first j d) (get_or now j d))
+      → All IsReady first → All IsReady now → ((j : ℕ) (d : Lane) → j < length first → Advances (get_or first j d) (get_or now j d))
       → ((j : ℕ) (d : Lane) (p : Place) → j < length first → get_or fronts j p ≡ place_in (get_or first j d))
       → ((j : ℕ) (d : Lane) (t : Tally) → j < length first → IsOver (get_or first j d).cursor.state → (get_or tallies j t).items ≡ 0)
-      → all_packing l len now fronts tallies + all_again l len now ≤ all_again l len first
-  all_packed_again [] [] fronts tallies e1 e2 e3 order ready ready_now on noted none = omega arith
-  all_packed_again [] (b ∷ now) fronts tallies e1 e2 e3 order ready ready_now on noted none = absurd (omega (arith, e1))
-  all_packed_again (a ∷ first) [] fronts tallies e1 e2 e3 order ready ready_now on noted none = absurd (omega (arith, e1))
-  all_packed_again (a ∷ first) (b ∷ now) [] tallies e1 e2 e3 order ready ready_now on noted none = absurd (omega (arith, e2))
-  all_packed_again (a ∷ first) (b ∷ now) (p ∷ fronts) [] e1 e2 e3 order ready ready_now on noted none = absurd (omega (arith, e3))
-  all_packed_again (a ∷ first) (b ∷ now) (p ∷ fronts) (t ∷ tallies) e1 e2 e3 order ready ready_now on noted none =
-      let one = packed_again a b p t.items (All-head (IsInOrder l) a first order) (All-head (IsReady l) a first ready) (All-head (IsReady l) b now ready_now) (on 0 a (omega arith)) (noted 0 a p (omega arith)) (none 0 a t (omega arith)) in
-      let rest = all_packed_again first now fronts tallies (omega (arith, e1)) (omega (arith, e2)) (omega (arith, e3)) (All-tail (IsInOrder l) a first order) (All-tail (IsReady l) a first ready) (All-tail (IsReady l) b now ready_now)
+      → all_packing len now fronts tallies + all_again len now ≤ all_again len first
+  all_packed_again [] [] fronts tallies e1 e2 e3 ready ready_now on noted none = omega arith
+  all_packed_again [] (b ∷ now) fronts tallies e1 e2 e3 ready ready_now on noted none = absurd (omega (arith, e1))
+  all_packed_again (a ∷ first) [] fronts tallies e1 e2 e3 ready ready_now on noted none = absurd (omega (arith, e1))
+  all_packed_again (a ∷ first) (b ∷ now) [] tallies e1 e2 e3 ready ready_now on noted none = absurd (omega (arith, e2))
+  all_packed_again (a ∷ first) (b ∷ now) (p ∷ fronts) [] e1 e2 e3 ready ready_now on noted none = absurd (omega (arith, e3))
+  all_packed_again (a ∷ first) (b ∷ now) (p ∷ fronts) (t ∷ tallies) e1 e2 e3 ready ready_now on noted none =
+      let one = packed_again a b p t.items (All-head IsReady a first ready) (All-head IsReady b now ready_now) (on 0 a (omega arith)) (noted 0 a p (omega arith)) (none 0 a t (omega arith)) in
+      let rest = all_packed_again first now fronts tallies (omega (arith, e1)) (omega (arith, e2)) (omega (arith, e3)) (All-tail IsReady a first ready) (All-tail IsReady b now ready_now)
       (λ j d lt. on (suc j) d (omega (arith, lt))) (λ j d q lt. noted (suc j) d q (omega (arith, lt))) (λ j d u lt. none (suc j) d u (omega (arith, lt))) in
-      omega (arith, sum_by-cons (again l len) a first, sum_by-cons (again l len) b now, one, rest)
+      omega (arith, sum_by-cons (again len) a first, sum_by-cons (again len) b now, one, rest)
 
   -- AT THE START
 
-  fresh_less : (a : Lane) → IsFresh a.cursor → unread l len a + again l len a ≤ 3 * a.part.size
+  fresh_less : (a : Lane) → IsFresh a.cursor → unread len a + again len a ≤ 3 * a.part.size
   fresh_less a fresh =
-      let all = size_all l len a.part some in
-      let first : unread l len a ≡ size_from l len a.part 0 =
-      ap (λ (s : LaneState). size_from l len a.part (first_unread s a.cursor.next)) fresh.state ∙ ap (size_from l len a.part) fresh.next in
+      let all = size_all a.layout len a.part (some_page a.layout) in
+      let first : unread len a ≡ size_from a.layout len a.part 0 =
+      ap (λ (s : LaneState). size_from a.layout len a.part (first_unread s a.cursor.next)) fresh.state ∙ ap (size_from a.layout len a.part) fresh.next in
       let begin : first_again a.cursor.state a.cursor.next ≡ 0 =
       ap (λ (s : LaneState). first_again s a.cursor.next) fresh.state ∙ ap (λ (k : ℕ). k - 1) fresh.next in
-      let one = ap (size_from l len a.part) begin in
-      let two = ap (size_from l len a.part) fresh.next in
+      let one = ap (size_from a.layout len a.part) begin in
+      let two = ap (size_from a.layout len a.part) fresh.next in
       omega (arith, all, first, one, two)
 
-  pub all_fresh : (lanes : List Lane) → All (λ (a : Lane). IsFresh a.cursor) lanes → to_read l len lanes ≤ 3 * sum_by (λ (p : ℕ × Part). p.1.size) (parts_of lanes)
+  pub all_fresh : (lanes : List Lane) → All (λ (a : Lane). IsFresh a.cursor) lanes → to_read len lanes ≤ 3 * sum_by (λ (p : ℕ × Part). p.1.size) (parts_of lanes)
   all_fresh [] fresh = omega arith
   all_fresh (a ∷ lanes) fresh =
       let one = fresh_less a (All-head (λ (b : Lane). IsFresh b.cursor) a lanes fresh) in
       let rest = all_fresh lanes (All-tail (λ (b : Lane). IsFresh b.cursor) a lanes fresh) in
       omega (
         arith,
-        sum_by-cons (unread l len) a lanes,
-        sum_by-cons (again l len) a lanes,
+        sum_by-cons (unread len) a lanes,
+        sum_by-cons (again len) a lanes,
         sum_by-cons (λ (p : ℕ × Part). p.1.size) (a.cpu, a.part) (parts_of lanes),
         one,
         rest,
@@ -166,27 +171,27 @@ module _ (l : Layout) (len : ℕ) (some : 0 < l.page) where
 
 -- LANES WITH THE SAME NUMBERS
 
-abbrev unread_at : Layout → ℕ → Part × LaneState × ℕ → ℕ
-unread_at l len at = size_from l len at.0 (first_unread at.1 at.2)
+abbrev unread_at : ℕ → Layout × Part × LaneState × ℕ → ℕ
+unread_at len at = size_from at.0 len at.1 (first_unread at.2 at.3)
 
-abbrev again_at : Layout → ℕ → Part × LaneState × ℕ → ℕ
-again_at l len at = size_from l len at.0 (first_again at.1 at.2) + size_from l len at.0 at.2
+abbrev again_at : ℕ → Layout × Part × LaneState × ℕ → ℕ
+again_at len at = size_from at.0 len at.1 (first_again at.2 at.3) + size_from at.0 len at.1 at.3
 
-by_numbers : (l : Layout) (len : ℕ) (lanes : List Lane) → to_read l len lanes ≡ sum_by (unread_at l len) (numbers_of lanes) + sum_by (again_at l len) (numbers_of lanes)
-by_numbers l len [] = refl
-by_numbers l len (a ∷ lanes) =
-    let at : Part × LaneState × ℕ = (a.part, a.cursor.state, a.cursor.next) in
+by_numbers : (len : ℕ) (lanes : List Lane) → to_read len lanes ≡ sum_by (unread_at len) (numbers_of lanes) + sum_by (again_at len) (numbers_of lanes)
+by_numbers len [] = refl
+by_numbers len (a ∷ lanes) =
+    let at : Layout × Part × LaneState × ℕ = (a.layout, a.part, a.cursor.state, a.cursor.next) in
     omega (
       arith,
-      sum_by-cons (unread l len) a lanes,
-      sum_by-cons (again l len) a lanes,
-      sum_by-cons (unread_at l len) at (numbers_of lanes),
-      sum_by-cons (again_at l len) at (numbers_of lanes),
-      by_numbers l len lanes,
+      sum_by-cons (unread len) a lanes,
+      sum_by-cons (again len) a lanes,
+      sum_by-cons (unread_at len) at (numbers_of lanes),
+      sum_by-cons (again_at len) at (numbers_of lanes),
+      by_numbers len lanes,
     )
 
-pub same_to_read : (l : Layout) (len : ℕ) (before now : List Lane) → numbers_of now ≡ numbers_of before → to_read l len now ≡ to_read l len before
-same_to_read l len before now same =
-    by_numbers l len now
-    ∙ ap (λ (ns : List (Part × LaneState × ℕ)). sum_by (unread_at l len) ns + sum_by (again_at l len) ns) same
-    ∙ sym (by_numbers l len before)
+pub same_to_read : (len : ℕ) (before now : List Lane) → numbers_of now ≡ numbers_of before → to_read len now ≡ to_read len before
+same_to_read len before now same =
+    by_numbers len now
+    ∙ ap (λ (ns : List (Layout × Part × LaneState × ℕ)). sum_by (unread_at len) ns + sum_by (again_at len) ns) same
+    ∙ sym (by_numbers len before)

@@ -1,11 +1,10 @@
 -- Lists whose lanes go through items.
 use Rattle.std.specs.Prelude.{◌≡◌, ℕ, ◌+◌, ◌-◌, ◌<◌, ◌≤◌, All, List, length, slice_index_or}
-use Rattle.trace_base.specs.declared.layout.Layout.{Layout}
 use Rattle.trace_outside.specs.declared.outside.File as file
 use Rattle.trace_outside.specs.Causes.{raised}
 use Rattle.trace_outside.specs.Keeping.{KeepsFile}
 use Rattle.page_pool.specs.declared.lane.Lane.{Lane}
-use Rattle.event_cursor.specs.Standing.{IsInOrder, Stands}
+use Rattle.event_cursor.specs.Standing.{Stands}
 use Rattle.time_merge.specs.Advancing.{Advances}
 use Rattle.time_merge.specs.LaneRows.{IsReady, parts_of, rows_of}
 use Rattle.time_merge.specs.Reads.{all_reading, all_unread}
@@ -21,33 +20,32 @@ pub record ListGoes (before now : ListSeen) : Type 0 where
   pub advance : (i : ℕ) (d : Lane) → i < length before.all → Advances (slice_index_or before.all i d) (slice_index_or now.all i d)
 
 -- Each list did, and each sub-buffer was read once.
-pub record ListsGo {F : Type 0} (f : file.Ghosts F) (layout : Layout) (file_before file_now : F) (before now : List ListSeen) : Type 0 where
+pub record ListsGo {F : Type 0} (f : file.Ghosts F) (file_before file_now : F) (before now : List ListSeen) : Type 0 where
   pub long : length now ≡ length before
   pub each : EachList ListGoes before now
   pub reads : f.reads file_now ≤ raised (f.reads file_before)
-      (all_unread layout (f.size file_before) (lanes_of before) - all_unread layout (f.size file_before) (lanes_of now)
-      + all_reading layout (f.size file_before) (lanes_of now))
-  pub unread : all_unread layout (f.size file_before) (lanes_of now) ≤ all_unread layout (f.size file_before) (lanes_of before)
+      (all_unread (f.size file_before) (lanes_of before) - all_unread (f.size file_before) (lanes_of now)
+      + all_reading (f.size file_before) (lanes_of now))
+  pub unread : all_unread (f.size file_before) (lanes_of now) ≤ all_unread (f.size file_before) (lanes_of before)
   pub keeps : KeepsFile f file_before file_now
 
 -- a list is ready for its next piece
-pub record ListBegun (layout : Layout) (list : ListSeen) : Type 0 where
-  pub in_order : All (IsInOrder layout) list.all
-  pub begun : IsBegun layout list
+pub record ListBegun (list : ListSeen) : Type 0 where
+  pub begun : IsBegun list
   pub fronts_long : length list.fronts ≡ length list.all
   pub tallies_long : length list.tallies ≡ length list.all
 
 -- a list's piece was measured
-pub record ListDone (layout : Layout) (before now : ListSeen) : Type 0 where
+pub record ListDone (before now : ListSeen) : Type 0 where
   pub fronts : now.fronts ≡ before.fronts
-  pub ready : All (IsReady layout) now.all
+  pub ready : All IsReady now.all
   pub long : length now.tallies ≡ length now.all
   pub over : SkipsOver before.all before.tallies now.tallies
 
 -- lanes that were loaded have left what they had
-pub record StaysToCome (layout : Layout) (file : List ℕ) (before now : List Lane) : Type 0 where
-  pub rows : rows_of layout file now ≡ rows_of layout file before
-  pub stands : All (Stands layout file) before → All (Stands layout file) now
+pub record StaysToCome (file : List ℕ) (before now : List Lane) : Type 0 where
+  pub rows : rows_of file now ≡ rows_of file before
+  pub stands : All (Stands file) before → All (Stands file) now
 
 -- a list keeps all but where its lanes stand
 pub record KeepsList (before now : ListSeen) : Type 0 where

@@ -1,7 +1,6 @@
 -- The lists that a split cuts, as rows of lanes have them left.
 use Rattle.std.specs.Prelude.{◌≡◌, ℕ, ◌<◌, Bool, true, false, ◌&&◌, ◌||◌, not, if◌then◌else◌, List, [], ◌∷◌, length, map, filter_map, slice_get, slice_index_or, Option, None, option_map}
 use Rattle.std.specs.List.{All, flat_map}
-use Rattle.trace_base.specs.declared.layout.Layout.{Layout}
 use Rattle.subpage.specs.Arrangement.{Keyed, key_of, cpu_of}
 use Rattle.subpage.specs.CutPlaces.{place_of}
 use Rattle.subpage.specs.declared.cut_place.CutPlace.{CutPlace}
@@ -47,12 +46,12 @@ bad_in_rows rules rows =
     if closes_rows rules rows then None else option_map place_of (least_cut rows)
 
 -- what each list of lanes has left
-abbrev pub lists_left : Layout → List ℕ → Rules → List Lane → List (List Keyed)
-lists_left layout file rules lanes = map (left_in_rows rules.stop) (groups rules (rows_of layout file lanes))
+abbrev pub lists_left : List ℕ → Rules → List Lane → List (List Keyed)
+lists_left file rules lanes = map (left_in_rows rules.stop) (groups rules (rows_of file lanes))
 
 -- and the first malformed sub-buffer that one of them leads to
-abbrev pub bad_left : Layout → List ℕ → Rules → List Lane → Option CutPlace
-bad_left layout file rules lanes = slice_get (filter_map (bad_in_rows rules) (groups rules (rows_of layout file lanes))) 0
+abbrev pub bad_left : List ℕ → Rules → List Lane → Option CutPlace
+bad_left file rules lanes = slice_get (filter_map (bad_in_rows rules) (groups rules (rows_of file lanes))) 0
 
 -- LISTS OF LANES
 

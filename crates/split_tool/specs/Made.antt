@@ -11,7 +11,6 @@ use Rattle.trace_outside.specs.Writing.{Gained}
 use Rattle.dat_header.specs.declared.header.Header.{Header}
 use Rattle.subpage.specs.ItemData.{ItemData}
 use Rattle.subpage.specs.Arrangement.{Keyed}
-use Rattle.trace_base.specs.declared.layout.Layout.{Layout}
 use Rattle.page_pool.specs.declared.lane.Lane.{Lane}
 use Rattle.page_write.specs.Placed.{data_of}
 use Rattle.event_cursor.specs.Standing.{Stands}
@@ -36,28 +35,28 @@ use Rattle.split_tool.specs.Unmaking.{ending_of}
 
 -- the bytes of the next file
 abbrev pub next_text : Header → List ℕ → Rules → List Lane → List ℕ
-next_text header file rules lanes = file_text header (lists_of header.cpus (taken_of header.layout file rules lanes))
+next_text header file rules lanes = file_text header (lists_of header.cpus (taken_of file rules lanes))
 
-abbrev pub OwnFronts : Layout → List ℕ → ListSeen → List Keyed → Type 0
-OwnFronts layout file list taken = AreFronts layout file list.all list.fronts list.tallies (owns list.all taken)
+abbrev pub OwnFronts : List ℕ → ListSeen → List Keyed → Type 0
+OwnFronts file list taken = AreFronts file list.all list.fronts list.tallies (owns list.all taken)
 
 -- these items stand between the places where the piece begins and the lanes, each lane's own
-abbrev pub AreFrontsOf : Layout → List ℕ → List ListSeen → List Keyed → Type 0
-AreFrontsOf layout file lists taken =
-    (k : ℕ) (e : ListSeen) → k < length lists → OwnFronts layout file (slice_index_or lists k e) taken
+abbrev pub AreFrontsOf : List ℕ → List ListSeen → List Keyed → Type 0
+AreFrontsOf file lists taken =
+    (k : ℕ) (e : ListSeen) → k < length lists → OwnFronts file (slice_index_or lists k e) taken
 
 -- a file was measured, and its table is known, whose numbers are told modulo 2^64
 pub record Prepared (header : Header) (file : List ℕ) (rules : Rules) (first now : List ListSeen) (table : List Part) (ends : Ends) : Type 0 where
-  pub left : FileLeft header.layout file rules (lanes_of first) (lanes_of now) ends
-  pub fronts_are : AreFrontsOf header.layout file now (taken_of header.layout file rules (lanes_of first))
-  pub table_is : table ≡ map in_table (table_of header (lists_of header.cpus (taken_of header.layout file rules (lanes_of first))))
-  pub bytes : data_of header.layout (owns (lanes_of now) (taken_of header.layout file rules (lanes_of first)))
-      ≡ data_of header.layout (lists_of header.cpus (taken_of header.layout file rules (lanes_of first)))
+  pub left : FileLeft file rules (lanes_of first) (lanes_of now) ends
+  pub fronts_are : AreFrontsOf file now (taken_of file rules (lanes_of first))
+  pub table_is : table ≡ map in_table (table_of header (lists_of header.cpus (taken_of file rules (lanes_of first))))
+  pub bytes : data_of header.layout (owns (lanes_of now) (taken_of file rules (lanes_of first)))
+      ≡ data_of header.layout (lists_of header.cpus (taken_of file rules (lanes_of first)))
 
 -- a file was written
 pub record Written (header : Header) (file : List ℕ) (table : List Part) (lists : List (List ItemData)) (before now : LanesOutput) : Type 0 where
-  pub stands : All (Stands header.layout file) now.lanes
-  pub rows : rows_of header.layout file now.lanes ≡ rows_of header.layout file before.lanes
+  pub stands : All (Stands file) now.lanes
+  pub rows : rows_of file now.lanes ≡ rows_of file before.lanes
   pub gained : Gained before.written now.written (front_text header table ++ data_of header.layout lists)
 
 abbrev pub IsWritten : {T : Type 0} → Header → List ℕ → List Part → List (List ItemData) → LanesOutput → LanesOutput → Result T Unmade → Type 0
@@ -79,7 +78,7 @@ pub record LanesFiles : Type 0 where
 
 -- The new file was finished: under its name stands the next file of what the lanes had left, and the rest is left.
 pub record Made (plan : FilePlan) (file : List ℕ) (before now : LanesFiles) (ends : Ends) : Type 0 where
-  pub left : FileLeft plan.header.layout file plan.rules before.lanes now.lanes ends
+  pub left : FileLeft file plan.rules before.lanes now.lanes ends
   pub stored : IfSome before.files (λ files. now.files ≡ Some (insert files plan.name (next_text plan.header file plan.rules before.lanes)))
 
 -- Over an input with these bytes: the new file was finished, or a call of the outside failed.

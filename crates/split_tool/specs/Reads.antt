@@ -1,6 +1,5 @@
 -- What a split may still read of lanes, in bytes, by the length of their file alone.
 use Rattle.std.specs.Prelude.{ℕ, ◌+◌, ◌-◌, ◌≤◌, List, MatchResult, Result, sum_by}
-use Rattle.trace_base.specs.declared.layout.Layout.{Layout}
 use Rattle.trace_outside.specs.Causes.{raised}
 use Rattle.page_pool.specs.declared.lane.Lane.{Lane}
 use Rattle.page_pool.specs.declared.cursor.LaneState.{LaneState}
@@ -18,21 +17,21 @@ first_again Ended next = next
 first_again Malformed next = next
 
 -- Second passes read each sub-buffer from there on, and once more that in which a piece ends and the next one begins.
-abbrev pub again : Layout → ℕ → Lane → ℕ
-again layout len lane =
-    size_from layout len lane.part (first_again lane.cursor.state lane.cursor.next)
-    + size_from layout len lane.part lane.cursor.next
+abbrev pub again : ℕ → Lane → ℕ
+again len lane =
+    size_from lane.layout len lane.part (first_again lane.cursor.state lane.cursor.next)
+    + size_from lane.layout len lane.part lane.cursor.next
 
-abbrev pub all_again : Layout → ℕ → List Lane → ℕ
-all_again layout len lanes = sum_by (again layout len) lanes
+abbrev pub all_again : ℕ → List Lane → ℕ
+all_again len lanes = sum_by (again len) lanes
 
 -- both passes of all further files
-abbrev pub to_read : Layout → ℕ → List Lane → ℕ
-to_read layout len lanes = all_unread layout len lanes + all_again layout len lanes
+abbrev pub to_read : ℕ → List Lane → ℕ
+to_read len lanes = all_unread len lanes + all_again len lanes
 
 -- what packing the pieces of lists reads
-abbrev pub lists_packing : Layout → ℕ → List ListSeen → ℕ
-lists_packing layout len lists = sum_by (λ list. all_packing layout len list.all list.fronts list.tallies) lists
+abbrev pub lists_packing : ℕ → List ListSeen → ℕ
+lists_packing len lists = sum_by (λ list. all_packing len list.all list.fronts list.tallies) lists
 
 -- of what might be read so much is left, and no more than the rest of it was read
 pub record Spent (most left before now : ℕ) : Type 0 where

@@ -7,7 +7,7 @@ use Rattle.dat_header.specs.Allowed.{IsHeader}
 use Rattle.dat_header.specs.Written.{text_before_table}
 use Rattle.subpage.specs.Arrangement.{CpusRise}
 use Rattle.page_pool.specs.Fresh.{IsFresh}
-use Rattle.time_merge.specs.LaneRows.{parts_of}
+use Rattle.time_merge.specs.LaneRows.{HasLayout, parts_of}
 use Rattle.split_passes.specs.ListSeen.{ListSeen}
 use Rattle.split_pieces.specs.declared.rules.Rules.{Rules}
 use Rattle.split_pieces.specs.Cuts.{is_apart}
@@ -28,6 +28,10 @@ pub record AreLists (rules : Rules) (header : Header) (lists : List ListSeen) : 
   pub groups : AreGroups (is_apart rules) lists
   pub rise : CpusRise (parts_of (lanes_of lists))
   pub cpus : All (λ lane. lane.cpu < header.cpus) (lanes_of lists)
+
+-- its lanes have its layout
+abbrev pub HasOwnLayouts : ListSeen → Type 0
+HasOwnLayouts list = All (HasLayout list.layout) list.all
 
 -- a file can be cut off the lists, and the work is for it
 pub record CanCut (rules : Rules) (header : Header) (lists : List ListSeen) (work : SplitWork) : Type 0 where

@@ -17,7 +17,7 @@ ghost use Rattle.split_tool.specs.Unmaking.{ending_of};
 ghost use Rattle.split_tool.specs.Work.{CanCut};
 
 use crate::front::write_front;
-use crate::lists::{Ends, begin_lists, measure_lists, pack_lists};
+use crate::lists::{Ends, begin_lists, know_layouts, measure_lists, pack_lists};
 use crate::names::{FileName, put_name};
 use crate::splitting::SplitPlan;
 use crate::table::fill_table;
@@ -37,16 +37,17 @@ fn measure_file<F: File>(
     ensures cut { CanCut plan.now.rules plan.now.header.now lists.new work.new }
     ensures parts { parts_of (lanes_of lists.new) ≡ parts_of (lanes_of lists.old) }
     ensures told { IfOk result (λ ends. IfSome (F.bytes file.old) (λ bytes.
-        All (Stands plan.now.header.now.layout bytes) (lanes_of lists.old) → length bytes < 2 ^ 64
+        All (Stands bytes) (lanes_of lists.old) → length bytes < 2 ^ 64
         → Prepared plan.now.header.now bytes plan.now.rules lists.old lists.new work.new.table.items ends)) }
     // What packing the file reads is left.
-    ensures reads { Spends (to_read plan.now.header.now.layout (F.size file.old) (lanes_of lists.old))
-        (to_read plan.now.header.now.layout (F.size file.old) (lanes_of lists.new)
-        + lists_packing plan.now.header.now.layout (F.size file.old) lists.new)
+    ensures reads { Spends (to_read (F.size file.old) (lanes_of lists.old))
+        (to_read (F.size file.old) (lanes_of lists.new)
+        + lists_packing (F.size file.old) lists.new)
         (F.reads file.old) (F.reads file.new) result }
     ensures cause { HasCause (F.faults file.old) (F.faults file.new) result }
     ensures keeps { KeepsFile F.File file.old file.new }
 {
+    know_layouts(lists);
     begin_lists(plan, file, lists)?;
     let ends = measure_lists(plan, file, lists)?;
     fill_table(
@@ -69,16 +70,16 @@ fn write_file<F: File, O: Sink>(
     requires { CanCut plan.now.rules plan.now.header.now lists.old work.old }
     ensures cut { CanCut plan.now.rules plan.now.header.now lists.new work.new }
     ensures parts { parts_of (lanes_of lists.new) ≡ parts_of (lanes_of lists.old) }
-    ensures told { IfSome (F.bytes file.old) (λ bytes. All (Stands plan.now.header.now.layout bytes) (lanes_of lists.old)
-        → (taken : List Keyed) → AreFrontsOf plan.now.header.now.layout bytes lists.old taken
+    ensures told { IfSome (F.bytes file.old) (λ bytes. All (Stands bytes) (lanes_of lists.old)
+        → (taken : List Keyed) → AreFrontsOf bytes lists.old taken
         → IsWritten plan.now.header.now bytes work.old.table.items (owns (lanes_of lists.old) taken)
         (record { lanes = lanes_of lists.old; written = O.written out.old }) (record { lanes = lanes_of lists.new; written = O.written out.new }) result) }
     ensures malformed { IfErr result (λ unmade. TellsHeld (lanes_of lists.new) (ending_of unmade)) }
     ensures gains { OnOk result (GainsSome (O.written out.old) (O.written out.new)) }
     ensures reads { F.reads file.new ≤ raised (F.reads file.old)
-        (lists_packing plan.now.header.now.layout (F.size file.old) lists.old) }
-    ensures left { OnOk result (to_read plan.now.header.now.layout (F.size file.old) (lanes_of lists.new)
-        ≡ to_read plan.now.header.now.layout (F.size file.old) (lanes_of lists.old)) }
+        (lists_packing (F.size file.old) lists.old) }
+    ensures left { OnOk result (to_read (F.size file.old) (lanes_of lists.new)
+        ≡ to_read (F.size file.old) (lanes_of lists.old)) }
     ensures keeps_out { KeepsSink O.Sink out.old out.new }
     ensures read { IfErr result (λ unmade. unmade ≡ Unmade.Read → Rose (F.faults file.old) (F.faults file.new)) }
     ensures write { IfErr result (λ unmade. unmade ≡ Unmade.Write → Rose (O.faults out.old) (O.faults out.new)) }
@@ -108,7 +109,7 @@ pub(crate) fn make_file<F: File, D: Folder>(
     requires cut { CanCut plan.now.rules plan.now.header.now lists.old work.old }
     ensures cut { CanCut plan.now.rules plan.now.header.now lists.new work.new }
     ensures parts { parts_of (lanes_of lists.new) ≡ parts_of (lanes_of lists.old) }
-    ensures told { IfSome (F.bytes file.old) (λ bytes. All (Stands plan.now.header.now.layout bytes) (lanes_of lists.old)
+    ensures told { IfSome (F.bytes file.old) (λ bytes. All (Stands bytes) (lanes_of lists.old)
         → length bytes < 2 ^ 64
         → IsMade (record { header = plan.now.header.now; rules = plan.now.rules; name = file_name plan.now.base.now number })
         bytes (record { lanes = lanes_of lists.old; files = D.files folder.old }) (record { lanes = lanes_of lists.new; files = D.files folder.new }) result) }
@@ -116,8 +117,8 @@ pub(crate) fn make_file<F: File, D: Folder>(
         (folder_seen D.Folder folder.old) (folder_seen D.Folder folder.new) result }
     ensures requested { AsksForIt (file_name plan.now.base.now number) (D.requested folder.old) (D.requested folder.new) result }
     ensures counts { CountsOne (D.counts folder.old) (D.counts folder.new) result }
-    ensures reads { Spends (to_read plan.now.header.now.layout (F.size file.old) (lanes_of lists.old))
-        (to_read plan.now.header.now.layout (F.size file.old) (lanes_of lists.new)) (F.reads file.old) (F.reads file.new) result }
+    ensures reads { Spends (to_read (F.size file.old) (lanes_of lists.old))
+        (to_read (F.size file.old) (lanes_of lists.new)) (F.reads file.old) (F.reads file.new) result }
     ensures read { IfErr result (λ unmade. unmade ≡ Unmade.Read → Rose (F.faults file.old) (F.faults file.new)) }
     ensures keeps { KeepsFile F.File file.old file.new }
 {

@@ -19,7 +19,7 @@ ghost use Rattle.split_tool.specs.Lists.{EachList, lanes_of};
 ghost use Rattle.split_tool.specs.Made.{AreFrontsOf};
 ghost use Rattle.split_tool.specs.Measured.{FileMeasured, ListMeasured, bad_of_end, is_full};
 ghost use Rattle.split_tool.specs.Reads.{lists_packing};
-ghost use Rattle.split_tool.specs.Work.{AreLists};
+ghost use Rattle.split_tool.specs.Work.{AreLists, HasOwnLayouts};
 
 use crate::splitting::SplitPlan;
 use split_passes::{LaneList, PieceEnd};
@@ -105,22 +105,31 @@ fn measure_list<F: File>(
 ) -> Result<Ends, Failed>
     ensures layout { list.new.layout ≡ list.old.layout }
     ensures fronts { list.new.fronts ≡ list.old.fronts }
-    ensures through { GoThrough F.File list.old.layout file.old file.new list.old.all list.new.all }
+    ensures through { GoThrough F.File file.old file.new list.old.all list.new.all }
     ensures long { length list.new.tallies ≡ length list.new.all }
-    ensures told { IfOk result (λ ends. IfSome (F.bytes file.old) (λ bytes. All (Stands list.old.layout bytes) list.old.all
-        → Tallied list.old.layout list.old.all [] list.old.tallies
-        → ListMeasured list.old.layout bytes rules.now (record { lanes = list.old.all; ends = before })
+    ensures told { IfOk result (λ ends. IfSome (F.bytes file.old) (λ bytes. All (Stands bytes) list.old.all
+        → Tallied list.old.all [] list.old.tallies
+        → ListMeasured bytes rules.now (record { lanes = list.old.all; ends = before })
         (record { lanes = list.new.all; ends = ends }) list.new.tallies)) }
-    ensures ready { OnOk result (All (IsReady list.old.layout) list.new.all) }
+    ensures ready { OnOk result (All IsReady list.new.all) }
     ensures over { SkipsOver list.old.all list.old.tallies list.new.tallies }
     ensures reads_done { OnOk result (F.reads file.new ≤ raised (F.reads file.old)
-        (all_unread list.old.layout (F.size file.old) list.old.all - all_unread list.old.layout (F.size file.old) list.new.all)) }
+        (all_unread (F.size file.old) list.old.all - all_unread (F.size file.old) list.new.all)) }
     ensures cause { HasCause (F.faults file.old) (F.faults file.new) result }
 {
     let mut gauge = Gauge::new(rules.unit);
     let end = list.measure(file, rules.stop, &mut gauge)?;
     let closed = is_closed(rules.repeat, &gauge);
     Ok(before.and(end, closed))
+}
+
+/// The lanes of each list have its layout: that is so by their type, and a look at them tells it.
+pub(crate) fn know_layouts(lists: &[LaneList])
+    ensures { All HasOwnLayouts lists.now }
+{
+    for i in 0..lists.len() {
+        let _ = lists[i].lanes();
+    }
 }
 
 /// Measures the pieces of a file, list by list.
@@ -133,14 +142,14 @@ pub(crate) fn measure_lists<F: File>(
     lists: &mut [LaneList],
 ) -> Result<Ends, Failed>
     requires { AreLists plan.now.rules plan.now.header.now lists.old }
-    ensures go { ListsGo F.File plan.now.header.now.layout file.old file.new lists.old lists.new }
-    ensures told { IfOk result (λ ends. IfSome (F.bytes file.old) (λ bytes. All (Stands plan.now.header.now.layout bytes) (lanes_of lists.old)
-        → All (ListBegun plan.now.header.now.layout) lists.old
-        → FileMeasured plan.now.header.now.layout bytes plan.now.rules lists.old lists.new ends)) }
-    ensures done { OnOk result (EachList (ListDone plan.now.header.now.layout) lists.old lists.new) }
+    ensures go { ListsGo F.File file.old file.new lists.old lists.new }
+    ensures told { IfOk result (λ ends. IfSome (F.bytes file.old) (λ bytes. All (Stands bytes) (lanes_of lists.old)
+        → All ListBegun lists.old
+        → FileMeasured bytes plan.now.rules lists.old lists.new ends)) }
+    ensures done { OnOk result (EachList ListDone lists.old lists.new) }
     ensures reads_done { OnOk result (F.reads file.new ≤ raised (F.reads file.old)
-        (all_unread plan.now.header.now.layout (F.size file.old) (lanes_of lists.old)
-        - all_unread plan.now.header.now.layout (F.size file.old) (lanes_of lists.new))) }
+        (all_unread (F.size file.old) (lanes_of lists.old)
+        - all_unread (F.size file.old) (lanes_of lists.new))) }
     ensures cause { HasCause (F.faults file.old) (F.faults file.new) result }
 {
     let mut ends = Ends::none();
@@ -160,13 +169,13 @@ pub(crate) fn begin_lists<F: File>(
     lists: &mut [LaneList],
 ) -> Result<(), Failed>
     requires { AreLists plan.now.rules plan.now.header.now lists.old }
-    ensures go { ListsGo F.File plan.now.header.now.layout file.old file.new lists.old lists.new }
-    ensures begun { OnOk result (All (ListBegun plan.now.header.now.layout) lists.new) }
+    ensures go { ListsGo F.File file.old file.new lists.old lists.new }
+    ensures begun { OnOk result (All ListBegun lists.new) }
     ensures told { OnOk result (IfSome (F.bytes file.old) (λ bytes.
-        StaysToCome plan.now.header.now.layout bytes (lanes_of lists.old) (lanes_of lists.new))) }
+        StaysToCome bytes (lanes_of lists.old) (lanes_of lists.new))) }
     ensures reads_done { OnOk result (F.reads file.new ≤ raised (F.reads file.old)
-        (all_unread plan.now.header.now.layout (F.size file.old) (lanes_of lists.old)
-        - all_unread plan.now.header.now.layout (F.size file.old) (lanes_of lists.new))) }
+        (all_unread (F.size file.old) (lanes_of lists.old)
+        - all_unread (F.size file.old) (lanes_of lists.new))) }
     ensures cause { HasCause (F.faults file.old) (F.faults file.new) result }
 {
     for i in 0..lists.len() {
@@ -188,15 +197,15 @@ pub(crate) fn pack_lists<F: File, O: Sink>(
     ensures kept { EachList KeepsList lists.old lists.new }
     ensures long { length lists.new ≡ length lists.old }
     ensures whole { length page.new ≡ plan.now.header.now.layout.page }
-    ensures told { IfSome (F.bytes file.old) (λ bytes. All (Stands plan.now.header.now.layout bytes) (lanes_of lists.old)
-        → (taken : List Keyed) → AreFrontsOf plan.now.header.now.layout bytes lists.old taken
+    ensures told { IfSome (F.bytes file.old) (λ bytes. All (Stands bytes) (lanes_of lists.old)
+        → (taken : List Keyed) → AreFrontsOf bytes lists.old taken
         → IsPackedAll plan.now.header.now.layout bytes (owns (lanes_of lists.old) taken)
         (record { lanes = lanes_of lists.old; written = O.written out.old }) (record { lanes = lanes_of lists.new; written = O.written out.new }) result) }
     ensures malformed { TellsHeld (lanes_of lists.new) result }
     ensures gains { result ≡ End.Done → GainsSome (O.written out.old) (O.written out.new) }
     ensures numbers { result ≡ End.Done → numbers_of (lanes_of lists.new) ≡ numbers_of (lanes_of lists.old) }
     ensures reads { F.reads file.new ≤ raised (F.reads file.old)
-        (lists_packing plan.now.header.now.layout (F.size file.old) lists.old) }
+        (lists_packing (F.size file.old) lists.old) }
     ensures read { result ≡ End.Read → Rose (F.faults file.old) (F.faults file.new) }
     ensures write { result ≡ End.Write → Rose (O.faults out.old) (O.faults out.new) }
     ensures keeps_out { KeepsSink O.Sink out.old out.new }

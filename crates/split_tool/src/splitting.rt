@@ -14,7 +14,7 @@ ghost use Rattle.split_tool.specs.Numbered.{LeavesFiles};
 ghost use Rattle.split_tool.specs.Work.{AreLists, IsWorkFor};
 
 use crate::files::make_file;
-use crate::lists::Ends;
+use crate::lists::{Ends, know_layouts};
 use crate::names::FileName;
 use crate::start::pass_start;
 use crate::work::SplitWork;
@@ -97,6 +97,7 @@ pub fn split<F: File, D: Folder>(
 {
     // A file's length is a number of 64 bits, so there are fewer items than 128 bits count.
     let _size = file.len();
+    know_layouts(lists);
     let Ok(()) = pass_start(plan, file, lists) else {
         return End::Read;
     };

@@ -23,12 +23,12 @@ pub(crate) fn pass_start<F: File>(
     lists: &mut [LaneList],
 ) -> Result<(), Failed>
     requires { AreLists plan.now.rules plan.now.header.now lists.old }
-    ensures go { ListsGo F.File plan.now.header.now.layout file.old file.new lists.old lists.new }
-    ensures told { OnOk result (IfSome (F.bytes file.old) (λ bytes. All (Stands plan.now.header.now.layout bytes) (lanes_of lists.old)
-        → Started plan.now.header.now.layout bytes plan.now.rules (lanes_of lists.old) (lanes_of lists.new))) }
+    ensures go { ListsGo F.File file.old file.new lists.old lists.new }
+    ensures told { OnOk result (IfSome (F.bytes file.old) (λ bytes. All (Stands bytes) (lanes_of lists.old)
+        → Started bytes plan.now.rules (lanes_of lists.old) (lanes_of lists.new))) }
     ensures reads_done { OnOk result (F.reads file.new ≤ raised (F.reads file.old)
-        (all_unread plan.now.header.now.layout (F.size file.old) (lanes_of lists.old)
-        - all_unread plan.now.header.now.layout (F.size file.old) (lanes_of lists.new))) }
+        (all_unread (F.size file.old) (lanes_of lists.old)
+        - all_unread (F.size file.old) (lanes_of lists.new))) }
     ensures cause { HasCause (F.faults file.old) (F.faults file.new) result }
 {
     let Some(start) = plan.rules.start else {

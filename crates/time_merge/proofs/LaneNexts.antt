@@ -2,7 +2,6 @@
 use Rattle.std.proofs.Common.{◌≡◌, ℕ, ◌<◌, List, [], length, get_or, map, Option, Some, sym, subst, ◌∙◌, ◌⊎◌, inl, inr}
 use Rattle.std.specs.List.{All}
 use Rattle.std.proofs.lemmas.List.{get_or_default}
-use Rattle.trace_base.specs.declared.layout.Layout.{Layout}
 use Rattle.subpage.specs.Arrangement.{CpusRise}
 use Rattle.subpage.specs.Cut.{Cut}
 use Rattle.page_pool.specs.declared.lane.Lane.{Lane}
@@ -19,12 +18,12 @@ abbrev made : Option ℕ → ℕ → ℕ → Cut
 made key cpu page = record { key = key; cpu = cpu; page = page }
 
 -- the cut of a lane of which the least comes next, with its own key
-pub cut_is_next : (l : Layout) (file : List ℕ) (lanes : List Lane) (i : ℕ) (here : Option ℕ) (d : Lane) → i < length lanes → (get_or lanes i d).cursor.state ≡ Malformed
-    → CpusRise (parts_of lanes) → All (Stands l file) lanes → All (IsReady l) lanes → IsLeastOf (map (next_of l) lanes) i here
-    → (to_come l file lanes ≡ []) × ((e : Lane) → least_cut (rows_of l file lanes) ≡ Some (cut_at lanes i e))
-cut_is_next l file lanes i here d lt bad rise stands ready least =
-    let t = cut_next l file lanes i here (get_or lanes i d) lt (get_or_default lanes i d (get_or lanes i d) lt) bad rise stands ready least in
-    (t.0, λ e. subst (λ (x : Lane). least_cut (rows_of l file lanes) ≡ Some (made x.cursor.high x.cpu x.cursor.next)) (get_or_default lanes i d e lt) t.1)
+pub cut_is_next : (file : List ℕ) (lanes : List Lane) (i : ℕ) (here : Option ℕ) (d : Lane) → i < length lanes → (get_or lanes i d).cursor.state ≡ Malformed
+    → CpusRise (parts_of lanes) → All (Stands file) lanes → All IsReady lanes → IsLeastOf (map next_of lanes) i here
+    → (to_come file lanes ≡ []) × ((e : Lane) → least_cut (rows_of file lanes) ≡ Some (cut_at lanes i e))
+cut_is_next file lanes i here d lt bad rise stands ready least =
+    let t = cut_next file lanes i here (get_or lanes i d) lt (get_or_default lanes i d (get_or lanes i d) lt) bad rise stands ready least in
+    (t.0, λ e. subst (λ (x : Lane). least_cut (rows_of file lanes) ≡ Some (made x.cursor.high x.cpu x.cursor.next)) (get_or_default lanes i d e lt) t.1)
 
 pub not_malformed : (s : LaneState) → (s ≡ Fresh) ⊎ ((s ≡ Held) ⊎ (s ≡ Ended)) → s ≡ Malformed → ⊥
 not_malformed s one bad = elim one [

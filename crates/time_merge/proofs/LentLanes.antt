@@ -20,35 +20,35 @@ all_written lanes now same =
     ∙ ap (take (length lanes)) (append-nil now) ∙ take_all (length lanes) now (omega (arith, same))
 
 -- what loads them while they are lent loads them
-pub lent_loads : {F : Type 0} (f : file.Ghosts F) (layout : Layout) (before after : F) (lanes given now : List Lane) → given ≡ lanes → LoadsLanes f layout before after given now
-    → LoadsLanes f layout before after lanes (written lanes now)
-lent_loads f layout before after lanes given now same loads =
+pub lent_loads : {F : Type 0} (f : file.Ghosts F) (before after : F) (lanes given now : List Lane) → given ≡ lanes → LoadsLanes f before after given now
+    → LoadsLanes f before after lanes (written lanes now)
+lent_loads f before after lanes given now same loads =
     let long : length now ≡ length lanes = same_length now given loads.parts ∙ ap length same in
-    subst (λ (ls : List Lane). LoadsLanes f layout before after lanes ls) (sym (all_written lanes now long))
-    (subst (λ (ls : List Lane). LoadsLanes f layout before after ls now) same loads)
+    subst (λ (ls : List Lane). LoadsLanes f before after lanes ls) (sym (all_written lanes now long))
+    (subst (λ (ls : List Lane). LoadsLanes f before after ls now) same loads)
 
 -- an item of one is used up
-pub lent_step : (layout : Layout) (lanes given : List Lane) (i : ℕ) (d lane : Lane) → given ≡ lanes → i < length lanes
-    → IsStepped layout (get_or given i d) lane → most_left layout lane + 1 ≡ most_left layout (get_or given i d)
-    → IsLaneStep layout lanes i (written lanes (set given i lane))
-lent_step layout lanes given i d lane same lt stepped most =
+pub lent_step : (lanes given : List Lane) (i : ℕ) (d lane : Lane) → given ≡ lanes → i < length lanes
+    → IsStepped (get_or given i d) lane → most_left lane + 1 ≡ most_left (get_or given i d)
+    → IsLaneStep lanes i (written lanes (set given i lane))
+lent_step lanes given i d lane same lt stepped most =
     let there : (x : Lane) → get_or given i d ≡ get_or lanes i x = λ x. ap (λ (ls : List Lane). get_or ls i d) same ∙ get_or_default lanes i d x lt in
     record {
       lane = lane;
       set = all_written lanes (set given i lane) (length-set given i lane ∙ ap length same) ∙ ap (λ (ls : List Lane). set ls i lane) same;
-      stepped = λ x. subst (λ (a : Lane). IsStepped layout a lane) (there x) stepped;
-      most = λ x. most ∙ ap (most_left layout) (there x);
+      stepped = λ x. subst (λ (a : Lane). IsStepped a lane) (there x) stepped;
+      most = λ x. most ∙ ap most_left (there x);
     }
 
 -- and maybe some more that do not matter
-pub lent_used : (m : ℕ → ItemData → Bool) (layout : Layout) (lanes given : List Lane) (i : ℕ) (d lane : Lane) → given ≡ lanes → i < length lanes
-    → IsUsedUp m layout (get_or given i d) lane → most_left layout lane < most_left layout (get_or given i d)
-    → IsLaneUsedUp m layout lanes i (written lanes (set given i lane))
-lent_used m layout lanes given i d lane same lt used most =
+pub lent_used : (m : ℕ → ItemData → Bool) (lanes given : List Lane) (i : ℕ) (d lane : Lane) → given ≡ lanes → i < length lanes
+    → IsUsedUp m (get_or given i d) lane → most_left lane < most_left (get_or given i d)
+    → IsLaneUsedUp m lanes i (written lanes (set given i lane))
+lent_used m lanes given i d lane same lt used most =
     let there : (x : Lane) → get_or given i d ≡ get_or lanes i x = λ x. ap (λ (ls : List Lane). get_or ls i d) same ∙ get_or_default lanes i d x lt in
     record {
       lane = lane;
       set = all_written lanes (set given i lane) (length-set given i lane ∙ ap length same) ∙ ap (λ (ls : List Lane). set ls i lane) same;
-      used = λ x. subst (λ (a : Lane). IsUsedUp m layout a lane) (there x) used;
-      most = λ x. subst (λ (a : Lane). most_left layout lane < most_left layout a) (there x) most;
+      used = λ x. subst (λ (a : Lane). IsUsedUp m a lane) (there x) used;
+      most = λ x. subst (λ (a : Lane). most_left lane < most_left a) (there x) most;
     }

@@ -2,7 +2,6 @@
 use Rattle.std.proofs.Common.{◌≡◌, ◌≢◌, ℕ, ◌<◌, List, length, get_or, set, map, sym, ap, subst, ◌∙◌, arith, inl, inr}
 use Rattle.std.proofs.lemmas.Bool.{cases_eq}
 use Rattle.std.proofs.lemmas.List.{ext_get_or, get_or-map, get_or-set_same, get_or-set_other, length-map, length-set}
-use Rattle.trace_base.specs.declared.layout.Layout.{Layout}
 use Rattle.page_pool.specs.declared.lane.Lane.{Lane}
 use Rattle.std.specs.List.{All}
 use Rattle.tournament_tree.specs.declared.slot_key.SlotKey.{SlotKey}
@@ -37,12 +36,12 @@ in_step_one f lanes now keys i d key long_keys long inside others in_step here =
     ])
 
 -- once an item of one lane was used, the others are ready and in step
-pub in_step_but : (l : Layout) (lanes : List Lane) (keys : List SlotKey) (i : ℕ) (now : Lane) → i < length lanes
-    → All (IsReady l) lanes → keys ≡ map (next_of l) lanes → IsInStepBut l (set lanes i now) keys i
-in_step_but l lanes keys i now inside ready in_step = record {
+pub in_step_but : (lanes : List Lane) (keys : List SlotKey) (i : ℕ) (now : Lane) → i < length lanes
+    → All IsReady lanes → keys ≡ map next_of lanes → IsInStepBut (set lanes i now) keys i
+in_step_but lanes keys i now inside ready in_step = record {
   inside = omega (arith, inside, length-set lanes i now);
-  ready = λ j d lt ne. subst (IsReady l) (sym (get_or-set_other lanes i j now d ne)) (ready j d (omega (arith, lt, length-set lanes i now)));
+  ready = λ j d lt ne. subst IsReady (sym (get_or-set_other lanes i j now d ne)) (ready j d (omega (arith, lt, length-set lanes i now)));
   keys_are = λ j d lt ne.
-      ap (λ (ks : List SlotKey). get_or ks j Empty) in_step ∙ get_or-map (next_of l) lanes j d Empty (omega (arith, lt, length-set lanes i now))
-      ∙ ap (next_of l) (sym (get_or-set_other lanes i j now d ne));
+      ap (λ (ks : List SlotKey). get_or ks j Empty) in_step ∙ get_or-map next_of lanes j d Empty (omega (arith, lt, length-set lanes i now))
+      ∙ ap next_of (sym (get_or-set_other lanes i j now d ne));
 }

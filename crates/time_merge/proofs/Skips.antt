@@ -3,7 +3,6 @@ use Rattle.std.proofs.Common.{◌≡◌, ℕ, ◌+◌, ◌<◌, eqb, Bool, false
 use Rattle.std.specs.List.{filter, filter_map, cons_option}
 use Rattle.std.proofs.lemmas.List.{map-append}
 use Rattle.std.proofs.lemmas.List.Concat.{flat_map-cons}
-use Rattle.trace_base.specs.declared.layout.Layout.{Layout}
 use Rattle.subpage.specs.ItemData.{ItemData}
 use Rattle.subpage.specs.Arrangement.{Keyed, key_of, cpu_of, by_key}
 use Rattle.subpage.specs.Cut.{Cut, earlier}
@@ -31,8 +30,8 @@ first_held Held cpu high (y ∷ ys) x e = (refl, omega arith)
 first_held Ended cpu high xs x e = absurd cc
 first_held Malformed cpu high xs x e = absurd cc
 
-pub held_of_first : (l : Layout) (a : Lane) (x : Keyed) → first_of (keyed_held l a) ≡ Some x → (a.cursor.state ≡ Held) × (0 < length (held_left l a))
-held_of_first l a x e = first_held a.cursor.state a.cpu a.cursor.high _ x e
+pub held_of_first : (a : Lane) (x : Keyed) → first_of (keyed_held a) ≡ Some x → (a.cursor.state ≡ Held) × (0 < length (held_left a))
+held_of_first a x e = first_held a.cursor.state a.cpu a.cursor.high _ x e
 
 -- a filter of an arrangement
 filtered : (q : Keyed → Bool) (xs : List Keyed) → filter q (by_key key_of xs) ≡ by_key key_of (filter q xs)
@@ -71,45 +70,45 @@ module _ (m : ℕ → ItemData → Bool) where
         ∙ ap (filter (reached (least_cut new))) (sym (filtered (by_item m) (together new)))
         ∙ sym (filter-filter (by_item m) (reached (least_cut new)) (by_key key_of (together new)))
 
-  module _ (l : Layout) where
-    rows_set : (file : List ℕ) (lanes : List Lane) (i : ℕ) (now : Lane) → i < length lanes
-        → rows_of l file (set lanes i now) ≡ rows_of l file (take i lanes) ++ row_of l file now ∷ rows_of l file (drop (i + 1) lanes)
-    rows_set file lanes i now lt = ap (rows_of l file) (set_around lanes i now lt) ∙ map-append (row_of l file) (take i lanes) (now ∷ drop (i + 1) lanes)
+  rows_set : (file : List ℕ) (lanes : List Lane) (i : ℕ) (now : Lane) → i < length lanes
+      → rows_of file (set lanes i now) ≡ rows_of file (take i lanes) ++ row_of file now ∷ rows_of file (drop (i + 1) lanes)
+  rows_set file lanes i now lt = ap (rows_of file) (set_around lanes i now lt) ∙ map-append (row_of file) (take i lanes) (now ∷ drop (i + 1) lanes)
 
-    -- in one lane of several
-    pub skipped_come : (file : List ℕ) (lanes : List Lane) (i : ℕ) (a b : Lane) → i < length lanes → IsSkipped m l a b
-        → filter (by_item m) (to_come l file (set lanes i a)) ≡ filter (by_item m) (to_come l file (set lanes i b))
-    skipped_come file lanes i a b lt s =
-        let before = rows_of l file (take i lanes) in
-        let after = rows_of l file (drop (i + 1) lanes) in
-        ap (λ (rows : List (Row Keyed)). filter (by_item m) (coming key_of cpu_of rows)) (rows_set file lanes i a lt)
-        ∙ coming_same (row_of l file a) (row_of l file b) after (cc (s.cpu, s.part)) (s.same file) before
-        ∙ ap (λ (rows : List (Row Keyed)). filter (by_item m) (coming key_of cpu_of rows)) (sym (rows_set file lanes i b lt))
+  -- in one lane of several
+  pub skipped_come : (file : List ℕ) (lanes : List Lane) (i : ℕ) (a b : Lane) → i < length lanes → IsSkipped m a b
+      → filter (by_item m) (to_come file (set lanes i a)) ≡ filter (by_item m) (to_come file (set lanes i b))
+  skipped_come file lanes i a b lt s =
+      let before = rows_of file (take i lanes) in
+      let after = rows_of file (drop (i + 1) lanes) in
+      ap (λ (rows : List (Row Keyed)). filter (by_item m) (coming key_of cpu_of rows)) (rows_set file lanes i a lt)
+      ∙ coming_same (row_of file a) (row_of file b) after (cc (s.cpu, s.layout, s.part)) (s.same file) before
+      ∙ ap (λ (rows : List (Row Keyed)). filter (by_item m) (coming key_of cpu_of rows)) (sym (rows_set file lanes i b lt))
 
-    pub skipped_none : (a : Lane) → IsSkipped m l a a
-    skipped_none a = record { cpu = refl; part = refl; state = refl; next = refl; stands = λ file s. s; same = λ file. refl }
+  pub skipped_none : (a : Lane) → IsSkipped m a a
+  skipped_none a = record { cpu = refl; layout = refl; part = refl; state = refl; next = refl; stands = λ file s. s; same = λ file. refl }
 
-    -- one item more
-    pub skipped_more : (a b c : Lane) → IsSkipped m l a b → IsOtherFirst m l b → IsStepped l b c → IsSkipped m l a c
-    skipped_more a b c s other step =
-        let first : Keyed = record { key = key_behind b.cursor.high step.first; cpu = b.cpu; item = step.first } in
-        let is_first : first_of (keyed_held l b) ≡ Some first = ap (λ (xs : List ItemData). first_of (keyed_behind b.cpu b.cursor.high xs)) step.left in
-        record {
-          cpu = step.page.cpu ∙ s.cpu;
-          part = step.page.part ∙ s.part;
-          state = step.page.state ∙ s.state;
-          next = step.page.next ∙ s.next;
-          stands = λ file was. stands_stepped l file b c step (s.stands file was);
-          same = λ file. s.same file ∙ ap (filter (by_item m)) (stepped_row l file b c step) ∙ filter-not (by_item m) first (row_of l file c).items (other first is_first);
-        }
+  -- one item more
+  pub skipped_more : (a b c : Lane) → IsSkipped m a b → IsOtherFirst m b → IsStepped b c → IsSkipped m a c
+  skipped_more a b c s other step =
+      let first : Keyed = record { key = key_behind b.cursor.high step.first; cpu = b.cpu; item = step.first } in
+      let is_first : first_of (keyed_held b) ≡ Some first = ap (λ (xs : List ItemData). first_of (keyed_behind b.cpu b.cursor.high xs)) step.left in
+      record {
+        cpu = step.page.cpu ∙ s.cpu;
+        layout = step.page.layout ∙ s.layout;
+        part = step.page.part ∙ s.part;
+        state = step.page.state ∙ s.state;
+        next = step.page.next ∙ s.next;
+        stands = λ file was. stands_stepped file b c step (s.stands file was);
+        same = λ file. s.same file ∙ ap (filter (by_item m)) (stepped_row file b c step) ∙ filter-not (by_item m) first (row_of file c).items (other first is_first);
+      }
 
 -- an item that does not matter, where it is a lane's first
-pub other_first : (m : ℕ → ItemData → Bool) (l : Layout) (a : Lane) (x : Keyed) → Some x ≡ first_of (keyed_held l a) → by_item m x ≡ false → IsOtherFirst m l a
-other_first m l a x e other = λ y first. ap (by_item m) (same_of y x (sym first ∙ sym e)) ∙ other
+pub other_first : (m : ℕ → ItemData → Bool) (a : Lane) (x : Keyed) → Some x ≡ first_of (keyed_held a) → by_item m x ≡ false → IsOtherFirst m a
+other_first m a x e other = λ y first. ap (by_item m) (same_of y x (sym first ∙ sym e)) ∙ other
   where
     same_of : (y z : Keyed) → Some y ≡ Some z → y ≡ z
     same_of y z e = cc
 
 -- items that are used up leave their lane its processor and its part
-pub used_parts : (m : ℕ → ItemData → Bool) (l : Layout) (lanes : List Lane) (i : ℕ) (d now : Lane) → i < length lanes → IsUsedUp m l (get_or lanes i d) now → parts_of (set lanes i now) ≡ parts_of lanes
-used_parts m l lanes i d now lt s = set_parts lanes i d now lt (s.skipped.cpu ∙ s.stepped.page.cpu) (s.skipped.part ∙ s.stepped.page.part)
+pub used_parts : (m : ℕ → ItemData → Bool) (lanes : List Lane) (i : ℕ) (d now : Lane) → i < length lanes → IsUsedUp m (get_or lanes i d) now → parts_of (set lanes i now) ≡ parts_of lanes
+used_parts m lanes i d now lt s = set_parts lanes i d now lt (s.skipped.cpu ∙ s.stepped.page.cpu) (s.skipped.part ∙ s.stepped.page.part)

@@ -85,14 +85,14 @@ keyed_parts : (cpu high : ℕ) (xs ys : List ItemData) → keyed_from cpu high (
 keyed_parts cpu high [] ys = refl
 keyed_parts cpu high (x ∷ xs) ys = ap (λ (zs : List Keyed). record { key = max high (item_time x); cpu = cpu; item = x } ∷ zs) (keyed_parts cpu (max high (item_time x)) xs ys)
 
-row_over : (l : Layout) (file : List ℕ) (xs : List ItemData) (a b : Lane) → IsSteppedOver l xs a b → (row_of l file a).items ≡ keyed_used a xs ++ (row_of l file b).items
-row_over l file xs a b s =
-    ap (keyed_behind a.cpu a.cursor.high) (left_over l file xs a b s) ∙ keyed_parts a.cpu (unwrap_or a.cursor.high 0) xs (left_of l file b)
-    ∙ ap (λ (high : Option ℕ). keyed_used a xs ++ keyed_behind a.cpu high (left_of l file b)) (sym s.high)
-    ∙ ap (λ (cpu : ℕ). keyed_used a xs ++ keyed_behind cpu b.cursor.high (left_of l file b)) (sym s.page.cpu)
+row_over : (file : List ℕ) (xs : List ItemData) (a b : Lane) → IsSteppedOver xs a b → (row_of file a).items ≡ keyed_used a xs ++ (row_of file b).items
+row_over file xs a b s =
+    ap (keyed_behind a.cpu a.cursor.high) (left_over file xs a b s) ∙ keyed_parts a.cpu (unwrap_or a.cursor.high 0) xs (left_of file b)
+    ∙ ap (λ (high : Option ℕ). keyed_used a xs ++ keyed_behind a.cpu high (left_of file b)) (sym s.high)
+    ∙ ap (λ (cpu : ℕ). keyed_used a xs ++ keyed_behind cpu b.cursor.high (left_of file b)) (sym s.page.cpu)
 
-same_cut : (l : Layout) (file : List ℕ) (xs : List ItemData) (a b : Lane) → IsSteppedOver l xs a b → (row_of l file b).cut ≡ (row_of l file a).cut
-same_cut l file xs a b s = cc (s.page.cpu, s.page.part)
+same_cut : (file : List ℕ) (xs : List ItemData) (a b : Lane) → IsSteppedOver xs a b → (row_of file b).cut ≡ (row_of file a).cut
+same_cut file xs a b s = cc (s.page.cpu, s.page.layout, s.page.part)
 
 -- with keys up to this one a slot is the least
 abbrev pub IsLeastUpTo : List SlotKey → ℕ → ℕ → Type 0
@@ -101,12 +101,12 @@ IsLeastUpTo keys i until = (k : ℕ) → k ≤ until → IsLeastAt (set keys i (
 heads_same : (x y : SlotKey) (xs ys : List SlotKey) → x ∷ xs ≡ y ∷ ys → (x ≡ y) × (xs ≡ ys)
 heads_same x y xs ys e = (cc, cc)
 
-module _ (l : Layout) (file : List ℕ) (lanes : List Lane) (keys : List SlotKey) (i until : ℕ) (stands : All (Stands l file) lanes) (long : length keys ≡ length lanes)
-    (but : IsInStepBut l lanes keys i) (least : IsLeastUpTo keys i until) where
-  bound_at : (j : ℕ) (d : Lane) → j < length lanes → j ≢ i → bound key_of cpu_of (row_of l file (get_or lanes j d)) ≡ get_or keys j Empty
-  bound_at j d lt other = bound_is l file (get_or lanes j d) (All-get_or (Stands l file) lanes j d lt stands) (but.ready j d lt other) ∙ sym (but.keys_are j d lt other)
+module _ (file : List ℕ) (lanes : List Lane) (keys : List SlotKey) (i until : ℕ) (stands : All (Stands file) lanes) (long : length keys ≡ length lanes)
+    (but : IsInStepBut lanes keys i) (least : IsLeastUpTo keys i until) where
+  bound_at : (j : ℕ) (d : Lane) → j < length lanes → j ≢ i → bound key_of cpu_of (row_of file (get_or lanes j d)) ≡ get_or keys j Empty
+  bound_at j d lt other = bound_is file (get_or lanes j d) (All-get_or (Stands file) lanes j d lt stands) (but.ready j d lt other) ∙ sym (but.keys_are j d lt other)
 
-  pub others_after : OthersAfter key_of cpu_of until (rows_of l file (take i lanes)) (rows_of l file (drop (i + 1) lanes))
+  pub others_after : OthersAfter key_of cpu_of until (rows_of file (take i lanes)) (rows_of file (drop (i + 1) lanes))
   others_after k le =
       let now : List SlotKey = set keys i (At k) in
       let inside : i < length keys = omega (arith, but.inside, long) in
@@ -118,35 +118,35 @@ module _ (l : Layout) (file : List ℕ) (lanes : List Lane) (keys : List SlotKey
       let own : from_time found.0 ≡ At k = parts.0 ∙ get_or-set_same keys i (At k) Empty inside in
       let here : found.0 ≡ Some k = same_time found.0 (Some k) own in
       let rank_is : rank found.0 ≡ k + 1 = ap rank here in (
-        All-map (λ r. NotBefore (k + 2) (bound key_of cpu_of r)) (row_of l file) (take i lanes) (λ j d lt.
+        All-map (λ r. NotBefore (k + 2) (bound key_of cpu_of r)) (row_of file) (take i lanes) (λ j d lt.
             let below : j < i = omega (arith, lt, length-take-le i lanes (omega (arith, but.inside))) in
             let key : get_or at.before j Empty ≡ get_or keys j Empty = ap (λ (ks : List SlotKey). get_or ks j Empty) front ∙ get_or-take i now j Empty below ∙ get_or-set_other keys i j (At k) Empty (λ e. omega (arith, e, below)) in
-            let is : bound key_of cpu_of (row_of l file (get_or (take i lanes) j d)) ≡ get_or at.before j Empty =
-            ap (λ (a : Lane). bound key_of cpu_of (row_of l file a)) (get_or-take i lanes j d below) ∙ bound_at j d (omega (arith, below, but.inside)) (λ e. omega (arith, e, below)) ∙ sym key in
+            let is : bound key_of cpu_of (row_of file (get_or (take i lanes) j d)) ≡ get_or at.before j Empty =
+            ap (λ (a : Lane). bound key_of cpu_of (row_of file a)) (get_or-take i lanes j d below) ∙ bound_at j d (omega (arith, below, but.inside)) (λ e. omega (arith, e, below)) ∙ sym key in
             let sooner : NotBefore (k + 2) (get_or at.before j Empty) = subst (λ (n : ℕ). NotBefore n (get_or at.before j Empty)) (let e : rank found.0 + 1 ≡ k + 2 = omega (arith, rank_is) in e) (at.sooner j Empty (omega (arith, below, at.place))) in
             subst (NotBefore (k + 2)) (sym is) sooner),
-        All-map (λ r. NotBefore (k + 1) (bound key_of cpu_of r)) (row_of l file) (drop (i + 1) lanes) (λ j d lt.
+        All-map (λ r. NotBefore (k + 1) (bound key_of cpu_of r)) (row_of file) (drop (i + 1) lanes) (λ j d lt.
             let place : ℕ = (i + 1) + j in
             let far : place < length lanes = omega (arith, lt, length-drop (i + 1) lanes) in
             let key : get_or at.after j Empty ≡ get_or keys place Empty = ap (λ (ks : List SlotKey). get_or ks j Empty) parts.1 ∙ get_or-drop (i + 1) now j Empty ∙ get_or-set_other keys i place (At k) Empty (λ e. omega (arith, e)) in
-            let is : bound key_of cpu_of (row_of l file (get_or (drop (i + 1) lanes) j d)) ≡ get_or at.after j Empty =
-            ap (λ (a : Lane). bound key_of cpu_of (row_of l file a)) (get_or-drop (i + 1) lanes j d) ∙ bound_at place d far (λ e. omega (arith, e)) ∙ sym key in
+            let is : bound key_of cpu_of (row_of file (get_or (drop (i + 1) lanes) j d)) ≡ get_or at.after j Empty =
+            ap (λ (a : Lane). bound key_of cpu_of (row_of file a)) (get_or-drop (i + 1) lanes j d) ∙ bound_at place d far (λ e. omega (arith, e)) ∙ sym key in
             let size : length at.after ≡ length keys - (i + 1) = ap length parts.1 ∙ length-drop (i + 1) now ∙ ap (λ (n : ℕ). n - (i + 1)) (length-set keys i (At k)) in
             let later : NotBefore (k + 1) (get_or at.after j Empty) = subst (λ (n : ℕ). NotBefore n (get_or at.after j Empty)) rank_is (at.later j Empty (omega (arith, far, size, long))) in
             subst (NotBefore (k + 1)) (sym is) later),
       )
 
-  pub has_turn : CpusRise (parts_of lanes) → HasTurn l file lanes i until
+  pub has_turn : CpusRise (parts_of lanes) → HasTurn file lanes i until
   has_turn rise d now xs s upto =
       let a = get_or lanes i d in
-      let before = rows_of l file (take i lanes) in
-      let after = rows_of l file (drop (i + 1) lanes) in
-      let here : rows_of l file lanes ≡ before ++ row_of l file a ∷ after = rows_around l file lanes i d but.inside in
-      let law = next_items key_of cpu_of before (row_of l file a) (row_of l file now) after until (keyed_used a xs) (row_over l file xs a now s) s.page.cpu (same_cut l file xs a now s)
-      (subst (λ (rs : List (Row Keyed)). Rise (cpus rs)) here (rows_rise l file lanes rise))
-      (subst (All (IsRow key_of cpu_of)) here (rows l file lanes stands))
+      let before = rows_of file (take i lanes) in
+      let after = rows_of file (drop (i + 1) lanes) in
+      let here : rows_of file lanes ≡ before ++ row_of file a ∷ after = rows_around file lanes i d but.inside in
+      let law = next_items key_of cpu_of before (row_of file a) (row_of file now) after until (keyed_used a xs) (row_over file xs a now s) s.page.cpu (same_cut file xs a now s)
+      (subst (λ (rs : List (Row Keyed)). Rise (cpus rs)) here (rows_rise file lanes rise))
+      (subst (All (IsRow key_of cpu_of)) here (rows file lanes stands))
       others_after upto in
-      ap (coming key_of cpu_of) here ∙ law ∙ ap (λ (rs : List (Row Keyed)). keyed_used a xs ++ coming key_of cpu_of rs) (sym (rows_set l file lanes i now but.inside))
+      ap (coming key_of cpu_of) here ∙ law ∙ ap (λ (rs : List (Row Keyed)). keyed_used a xs ++ coming key_of cpu_of rs) (sym (rows_set file lanes i now but.inside))
 
 -- what is known of a number that was found
 pub if_some : {P Q : ℕ → Type 0} (o : Option ℕ) → IfSome o P → ((n : ℕ) → P n → Q n) → IfSome o Q

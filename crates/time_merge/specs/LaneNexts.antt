@@ -1,6 +1,5 @@
 -- Which lane is next, told with its place.
 use Rattle.std.specs.Prelude.{◌≡◌, ℕ, ◌<◌, List, [], length, slice_index_or, Some, None}
-use Rattle.trace_base.specs.declared.layout.Layout.{Layout}
 use Rattle.subpage.specs.Cut.{Cut}
 use Rattle.page_pool.specs.declared.lane.Lane.{Lane}
 use Rattle.page_pool.specs.declared.cursor.LaneState.TheVariants.{Held}
@@ -19,16 +18,16 @@ cut_at lanes i d = record {
   page = (slice_index_or lanes i d).cursor.next;
 }
 
-abbrev pub IsLaneNext : Layout → List ℕ → List Lane → LaneNext → Type 0
-IsLaneNext layout file lanes (next.Item i) = IsNextLane layout file lanes i
-IsLaneNext layout file lanes (next.Cut i) =
-    (to_come layout file lanes ≡ []) × ((d : Lane) → least_cut (rows_of layout file lanes) ≡ Some (cut_at lanes i d))
-IsLaneNext layout file lanes next.Done = (to_come layout file lanes ≡ []) × (least_cut (rows_of layout file lanes) ≡ None)
+abbrev pub IsLaneNext : List ℕ → List Lane → LaneNext → Type 0
+IsLaneNext file lanes (next.Item i) = IsNextLane file lanes i
+IsLaneNext file lanes (next.Cut i) =
+    (to_come file lanes ≡ []) × ((d : Lane) → least_cut (rows_of file lanes) ≡ Some (cut_at lanes i d))
+IsLaneNext file lanes next.Done = (to_come file lanes ≡ []) × (least_cut (rows_of file lanes) ≡ None)
 
 -- a lane of which an item is next holds it
-abbrev pub HoldsLaneNext : Layout → List Lane → LaneNext → Type 0
-HoldsLaneNext layout lanes (next.Item i) =
+abbrev pub HoldsLaneNext : List Lane → LaneNext → Type 0
+HoldsLaneNext lanes (next.Item i) =
     (i < length lanes)
-    × ((d : Lane) → ((slice_index_or lanes i d).cursor.state ≡ Held) × (0 < length (held_left layout (slice_index_or lanes i d))))
-HoldsLaneNext layout lanes (next.Cut i) = i < length lanes
-HoldsLaneNext layout lanes next.Done = Unit {0}
+    × ((d : Lane) → ((slice_index_or lanes i d).cursor.state ≡ Held) × (0 < length (held_left (slice_index_or lanes i d))))
+HoldsLaneNext lanes (next.Cut i) = i < length lanes
+HoldsLaneNext lanes next.Done = Unit {0}

@@ -1,11 +1,13 @@
 -- Lanes of which nothing was used up.
 use Rattle.std.specs.Prelude.{◌≡◌, ℕ, replicate}
+use Rattle.trace_base.specs.declared.layout.Layout.{Layout}
 use Rattle.page_pool.specs.Fresh.{IsFresh}
 use Rattle.page_pool.specs.Lines.{no_lines}
 use Rattle.page_pool.specs.declared.lane.Lane.{Lane}
 
--- a lane of any processor as the pool made it, with so many bytes for a sub-buffer and for lines
-pub record IsUnused (len room : ℕ) (lane : Lane) : Type 0 where
+-- a lane of any processor as the pool made it, with room for a sub-buffer of this layout and so many bytes for lines
+pub record IsUnused (layout : Layout) (room : ℕ) (lane : Lane) : Type 0 where
+  pub layout_is : lane.layout ≡ layout
   pub fresh : IsFresh lane.cursor
-  pub page : lane.page ≡ replicate len 0
+  pub page : lane.page ≡ replicate layout.page 0
   pub region : lane.region ≡ no_lines (replicate room 0)

@@ -6,7 +6,6 @@ ghost use Rattle.time_merge.specs.LaneRows.{IsReady, next_of, parts_of};
 
 use page_pool::{Lane, LaneState};
 use tournament_tree::TournamentTree;
-use trace_base::Layout;
 
 /// What comes next of ready lanes.
 #[derive(Clone, Copy, Debug, PartialEq, Eq)]
@@ -20,13 +19,13 @@ pub enum LaneNext {
 }
 
 /// What comes next of ready lanes, by a tree that is in step with them.
-pub(crate) fn lane_next(layout: &Layout, lanes: &[Lane], nexts: &TournamentTree) -> LaneNext
+pub(crate) fn lane_next(lanes: &[Lane], nexts: &TournamentTree) -> LaneNext
     requires rise { CpusRise (parts_of lanes.now) }
     requires slots { length nexts.now ≡ length lanes.now }
-    requires ready { All (IsReady layout.now) lanes.now }
-    requires nexts { nexts.now ≡ map (next_of layout.now) lanes.now }
-    ensures holds { HoldsLaneNext layout.now lanes.now result }
-    ensures next { (file : List ℕ) → All (Stands layout.now file) lanes.now → IsLaneNext layout.now file lanes.now result }
+    requires ready { All IsReady lanes.now }
+    requires nexts { nexts.now ≡ map next_of lanes.now }
+    ensures holds { HoldsLaneNext lanes.now result }
+    ensures next { (file : List ℕ) → All (Stands file) lanes.now → IsLaneNext file lanes.now result }
 {
     let Some(i) = nexts.least() else {
         return LaneNext::Done;

@@ -3,7 +3,7 @@ ghost use Rattle.std.specs.Option.{ForSome};
 ghost use Rattle.trace_outside.specs.Causes.{HasCause};
 ghost use Rattle.subpage.specs.Arrangement.{CpusRise};
 ghost use Rattle.page_pool.specs.declared.lane.Lane.{Lane};
-ghost use Rattle.event_cursor.specs.Standing.{IsInOrder, Stands};
+ghost use Rattle.event_cursor.specs.Standing.{Stands};
 ghost use Rattle.time_merge.specs.LaneRows.{IsReady, next_of, parts_of};
 ghost use Rattle.time_merge.specs.Loading.{LoadsLanes};
 ghost use Rattle.time_merge.specs.Nexts.{HoldsNext, IsBest, IsLeastAt, IsNext};
@@ -15,7 +15,6 @@ use event_cursor::head_key;
 use page_pool::{Lane, LaneState};
 use subpage::CutPlace;
 use tournament_tree::SlotKey;
-use trace_base::Layout;
 use trace_outside::{Failed, File};
 
 /// What comes next of several lanes.
@@ -30,9 +29,8 @@ pub enum Next {
 }
 
 /// What comes next of a ready lane: the key of its head, or that of the last item before its malformed sub-buffer.
-pub(crate) fn next_of(layout: &Layout, lane: &Lane) -> SlotKey
-    requires { IsInOrder layout.now lane.now }
-    ensures { result ≡ next_of layout.now lane.now }
+pub(crate) fn next_of(lane: &Lane) -> SlotKey
+    ensures { result ≡ next_of lane.now }
 {
     match lane.cursor.state {
         LaneState::Held => match head_key(lane) {
@@ -45,14 +43,13 @@ pub(crate) fn next_of(layout: &Layout, lane: &Lane) -> SlotKey
 }
 
 /// The lane of which the least comes next, and the first of several such.
-fn least_of(layout: &Layout, lanes: &[Lane]) -> Option<usize>
-    requires { All (IsInOrder layout.now) lanes.now }
-    ensures least { IsLeastAt (map (next_of layout.now) lanes.now) result }
+fn least_of(lanes: &[Lane]) -> Option<usize>
+    ensures least { IsLeastAt (map next_of lanes.now) result }
     ensures inside { IfSome result (λ i. i < length lanes.now) }
 {
     let mut best = None;
     for i in 0..lanes.len() {
-        best = better(best, i, next_of(layout, &lanes[i]));
+        best = better(best, i, next_of(&lanes[i]));
     }
     match best {
         Some((i, _)) => Some(i),
@@ -72,13 +69,13 @@ fn is_malformed(lane: &Lane) -> bool
 }
 
 /// What comes next of ready lanes, of which this is the one whose next is least, if anything comes.
-pub(crate) fn next_at(layout: &Layout, lanes: &[Lane], least: Option<usize>) -> Next
+pub(crate) fn next_at(lanes: &[Lane], least: Option<usize>) -> Next
     requires rise { CpusRise (parts_of lanes.now) }
-    requires ready { All (IsReady layout.now) lanes.now }
-    requires least { IsLeastAt (map (next_of layout.now) lanes.now) least }
+    requires ready { All IsReady lanes.now }
+    requires least { IsLeastAt (map next_of lanes.now) least }
     requires inside { ForSome least (λ i. i < length lanes.now) }
-    ensures holds { HoldsNext layout.now lanes.now result }
-    ensures next { (bytes : List ℕ) → All (Stands layout.now bytes) lanes.now → IsNext layout.now bytes lanes.now result }
+    ensures holds { HoldsNext lanes.now result }
+    ensures next { (bytes : List ℕ) → All (Stands bytes) lanes.now → IsNext bytes lanes.now result }
 {
     match least {
         None => Next::Done,
@@ -103,18 +100,17 @@ pub(crate) fn next_at(layout: &Layout, lanes: &[Lane], least: Option<usize>) -> 
 ///
 /// # Errors
 /// `Failed` where a read failed. The lanes are not to be used again then.
-pub fn next_lane<F: File>(layout: &Layout, file: &mut F, lanes: &mut [Lane]) -> Result<Next, Failed>
-    requires in_order { All (IsInOrder layout.now) lanes.old }
+pub fn next_lane<F: File>(file: &mut F, lanes: &mut [Lane]) -> Result<Next, Failed>
     requires rise { CpusRise (parts_of lanes.old) }
-    ensures loads { LoadsLanes F.File layout.now file.old file.new lanes.old lanes.new }
-    ensures holds { IfOk result (HoldsNext layout.now lanes.new) }
-    ensures ready { OnOk result (All (IsReady layout.now) lanes.new) }
+    ensures loads { LoadsLanes F.File file.old file.new lanes.old lanes.new }
+    ensures holds { IfOk result (HoldsNext lanes.new) }
+    ensures ready { OnOk result (All IsReady lanes.new) }
     ensures next { IfOk result (λ next. IfSome (F.bytes file.old) (λ bytes.
-        All (Stands layout.now bytes) lanes.old → IsNext layout.now bytes lanes.new next)) }
+        All (Stands bytes) lanes.old → IsNext bytes lanes.new next)) }
     ensures cause { HasCause (F.faults file.old) (F.faults file.new) result }
-    ensures stops { OnErr result (HasStopped layout.now (F.size file.old) lanes.old lanes.new (F.reads file.old)
+    ensures stops { OnErr result (HasStopped (F.size file.old) lanes.old lanes.new (F.reads file.old)
         (F.reads file.new)) }
 {
-    make_all_ready(layout, file, lanes)?;
-    Ok(next_at(layout, lanes, least_of(layout, lanes)))
+    make_all_ready(file, lanes)?;
+    Ok(next_at(lanes, least_of(lanes)))
 }

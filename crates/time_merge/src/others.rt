@@ -4,13 +4,12 @@ ghost use Rattle.std.specs.Prelude.{◌≡◌, ◌<◌, ◌≤◌, ℕ, Bool, tr
 ghost use Rattle.subpage.specs.ItemData.{ItemData};
 ghost use Rattle.subpage.specs.ItemView.{item_view};
 ghost use Rattle.page_pool.specs.declared.cursor.LaneState.{LaneState};
-ghost use Rattle.event_cursor.specs.Standing.{IsInOrder, held_left, most_left};
+ghost use Rattle.event_cursor.specs.Standing.{held_left, most_left};
 ghost use Rattle.time_merge.specs.Skipping.{IsOtherFirst, IsSkipped, IsUsedUp};
 
 use event_cursor::{head, step};
 use page_pool::Lane;
 use subpage::Item;
-use trace_base::Layout;
 
 /// What tells the items that do not matter from the others.
 pub trait Others {
@@ -30,45 +29,40 @@ pub trait Others {
 }
 
 // Whether it pays to look, a lane holds an item, and the first that is not used up does not matter.
-fn holds_other<O: Others>(others: &O, layout: &Layout, lane: &Lane) -> bool
+fn holds_other<O: Others>(others: &O, lane: &Lane) -> bool
     requires sound { O.is_sound others.now }
-    requires in_order { IsInOrder layout.now lane.now }
-    ensures other { result ≡ true → IsOtherFirst (O.matters others.now) layout.now lane.now }
+    ensures other { result ≡ true → IsOtherFirst (O.matters others.now) lane.now }
     ensures held { result ≡ true → lane.now.cursor.state ≡ LaneState.Held }
-    ensures some { result ≡ true → 0 < length (held_left layout.now lane.now) }
+    ensures some { result ≡ true → 0 < length (held_left lane.now) }
 {
     if !O::LOOKS_AHEAD {
         return false;
     }
-    match head(layout, lane) {
+    match head(lane) {
         Some((_, item)) => others.is_other(lane.cpu, &item),
         None => false,
     }
 }
 
 // Uses up the items of the held sub-buffer up to the first that matters.
-fn skip_others<O: Others>(others: &O, layout: &Layout, lane: &mut Lane)
+fn skip_others<O: Others>(others: &O, lane: &mut Lane)
     requires sound { O.is_sound others.now }
-    requires in_order { IsInOrder layout.now lane.old }
-    ensures in_order { IsInOrder layout.now lane.new }
-    ensures skipped { IsSkipped (O.matters others.now) layout.now lane.old lane.new }
-    ensures most { most_left layout.now lane.new ≤ most_left layout.now lane.old }
+    ensures skipped { IsSkipped (O.matters others.now) lane.old lane.new }
+    ensures most { most_left lane.new ≤ most_left lane.old }
 {
-    while holds_other(others, layout, lane) {
-        step(layout, lane);
+    while holds_other(others, lane) {
+        step(lane);
     }
 }
 
 /// Uses up the first item of a lane, and after it those that do not matter.
-pub(crate) fn use_up<O: Others>(others: &O, layout: &Layout, lane: &mut Lane)
+pub(crate) fn use_up<O: Others>(others: &O, lane: &mut Lane)
     requires sound { O.is_sound others.now }
-    requires in_order { IsInOrder layout.now lane.old }
     requires held { lane.old.cursor.state ≡ LaneState.Held }
-    requires some { 0 < length (held_left layout.now lane.old) }
-    ensures in_order { IsInOrder layout.now lane.new }
-    ensures used { IsUsedUp (O.matters others.now) layout.now lane.old lane.new }
-    ensures most { most_left layout.now lane.new < most_left layout.now lane.old }
+    requires some { 0 < length (held_left lane.old) }
+    ensures used { IsUsedUp (O.matters others.now) lane.old lane.new }
+    ensures most { most_left lane.new < most_left lane.old }
 {
-    step(layout, lane);
-    skip_others(others, layout, lane)
+    step(lane);
+    skip_others(others, lane)
 }

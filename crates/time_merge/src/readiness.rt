@@ -1,6 +1,5 @@
 ghost use Rattle.std.specs.Prelude.{List};
 ghost use Rattle.tournament_tree.specs.declared.slot_key.SlotKey.{SlotKey};
-ghost use Rattle.trace_base.specs.declared.layout.Layout.{Layout};
 ghost use Rattle.page_pool.specs.declared.lane.Lane.{Lane};
 ghost use Rattle.time_merge.specs.Nexts.{IsInStep};
 ghost use Rattle.time_merge.specs.Readiness.{AreKnown};
@@ -19,8 +18,8 @@ pub enum Readiness {
 impl Readiness {
     /// The lane of which an item was used up, where the others are ready.
     pub(crate) fn used(self) -> Option<usize>
-        ensures { (layout : Layout) (lanes : List Lane) (keys : List SlotKey) → AreKnown layout lanes keys self
-            → IsInStep layout lanes keys result }
+        ensures { (lanes : List Lane) (keys : List SlotKey) → AreKnown lanes keys self
+            → IsInStep lanes keys result }
     {
         match self {
             Readiness::AllBut(i) => Some(i),

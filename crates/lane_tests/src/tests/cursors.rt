@@ -2,8 +2,7 @@
 //! its head's.
 
 ghost use Rattle.std.specs.Prelude.{◌≡◌, ◌≢◌, ◌<◌, false, IfOk, IsTrue, [], length};
-ghost use Rattle.page_pool.specs.Fresh.{IsNew};
-ghost use Rattle.event_cursor.specs.Standing.{IsInOrder, held_left};
+ghost use Rattle.event_cursor.specs.Standing.{held_left};
 
 use event_cursor::{Loaded, Place, Sought, head, head_key, is_there, load, seek, step};
 use page_pool::{Lane, LaneState, Pool};
@@ -11,7 +10,7 @@ use std::alloc::{AllocError, Global};
 use std::str::Split;
 use std::test::Fail;
 use subpage::Item;
-use trace_base::{ByteText, Layout, Part};
+use trace_base::{ByteText, Part};
 use trace_outside::{Failed, File, MemFile};
 use trace_samples::Page::{Lossy, Malformed, Of};
 use trace_samples::{layout, put_pages};
@@ -33,24 +32,21 @@ const LOSS: Item<'static> = Item::Loss {
     count: Some(7),
 };
 
-fn set_part(layout: &Layout, lane: &mut Lane, part: Part)
-    requires page { layout.now.page ≡ 4096 }
-    requires new { IsNew 4096 16 lane.old }
-    ensures in_order { IsInOrder layout.now lane.new }
+fn set_part(lane: &mut Lane, part: Part)
+    requires fresh { lane.old.cursor.state ≡ LaneState.Fresh }
     ensures fresh { lane.new.cursor.state ≡ LaneState.Fresh }
 {
     lane.part = part;
 }
 
 // Whether the lane holds an item.
-fn holds_item(layout: &Layout, lane: &Lane) -> bool
-    requires { IsInOrder layout.now lane.now }
+fn holds_item(lane: &Lane) -> bool
     ensures held { IsTrue result → lane.now.cursor.state ≡ LaneState.Held }
-    ensures some { IsTrue result → 0 < length (held_left layout.now lane.now) }
-    ensures none { result ≡ false → held_left layout.now lane.now ≡ [] }
+    ensures some { IsTrue result → 0 < length (held_left lane.now) }
+    ensures none { result ≡ false → held_left lane.now ≡ [] }
 {
     match lane.cursor.state {
-        LaneState::Held => match head(layout, lane) {
+        LaneState::Held => match head(lane) {
             Some(_) => true,
             None => false,
         },
@@ -59,27 +55,23 @@ fn holds_item(layout: &Layout, lane: &Lane) -> bool
 }
 
 // The key that the lane tells by itself is that of its head.
-fn knows_key(layout: &Layout, lane: &Lane) -> bool
-    requires { IsInOrder layout.now lane.now }
-{
-    match head(layout, lane) {
+fn knows_key(lane: &Lane) -> bool {
+    match head(lane) {
         Some((key, _)) => head_key(lane) == Some(key),
         None => head_key(lane) == None,
     }
 }
 
 // Loads the lane where it has no item.
-fn ready<F: File>(layout: &Layout, file: &mut F, lane: &mut Lane) -> Result<Loaded, Failed>
-    requires in_order { IsInOrder layout.now lane.old }
+fn ready<F: File>(file: &mut F, lane: &mut Lane) -> Result<Loaded, Failed>
     requires sound { lane.old.cursor.state ≢ LaneState.Malformed }
-    ensures in_order { IsInOrder layout.now lane.new }
     ensures held { IfOk result (λ loaded. loaded ≡ Loaded.Loaded → lane.new.cursor.state ≡ LaneState.Held) }
-    ensures some { IfOk result (λ loaded. loaded ≡ Loaded.Loaded → 0 < length (held_left layout.now lane.new)) }
+    ensures some { IfOk result (λ loaded. loaded ≡ Loaded.Loaded → 0 < length (held_left lane.new)) }
 {
-    if holds_item(layout, lane) {
+    if holds_item(lane) {
         return Ok(Loaded::Loaded);
     }
-    load(layout, file, lane)
+    load(file, lane)
 }
 
 fn event(time: u64, payload: &'static [u8]) -> Item<'static> {
@@ -102,42 +94,33 @@ fn keyed(letter: u8) -> (u64, Item<'static>) {
 }
 
 // The lane has just these items left, with these keys, and then this is loaded.
-fn tells<F: File>(
-    layout: &Layout,
-    file: &mut F,
-    lane: &mut Lane,
-    items: &str,
-    end: Result<Loaded, Failed>,
-) -> bool
-    requires in_order { IsInOrder layout.now lane.old }
+fn tells<F: File>(file: &mut F, lane: &mut Lane, items: &str, end: Result<Loaded, Failed>) -> bool
     requires sound { lane.old.cursor.state ≢ LaneState.Malformed }
 {
     for letter in items.as_bytes() {
-        let Ok(Loaded::Loaded) = ready(layout, file, lane) else {
+        let Ok(Loaded::Loaded) = ready(file, lane) else {
             return false;
         };
-        if head(layout, lane) != Some(keyed(*letter)) || !knows_key(layout, lane) {
+        if head(lane) != Some(keyed(*letter)) || !knows_key(lane) {
             return false;
         }
-        step(layout, lane);
-        if !knows_key(layout, lane) {
+        step(lane);
+        if !knows_key(lane) {
             return false;
         }
     }
-    ready(layout, file, lane) == end && knows_key(layout, lane)
+    ready(file, lane) == end && knows_key(lane)
 }
 
 // Uses so many items up.
-fn go_on<F: File>(layout: &Layout, file: &mut F, lane: &mut Lane, count: u32)
-    requires in_order { IsInOrder layout.now lane.old }
+fn go_on<F: File>(file: &mut F, lane: &mut Lane, count: u32)
     requires sound { lane.old.cursor.state ≢ LaneState.Malformed }
-    ensures in_order { IsInOrder layout.now lane.new }
 {
     for _ in 0..count {
-        let Ok(Loaded::Loaded) = ready(layout, file, lane) else {
+        let Ok(Loaded::Loaded) = ready(file, lane) else {
             return;
         };
-        step(layout, lane);
+        step(lane);
     }
 }
 
@@ -155,27 +138,24 @@ fn stands_at(lane: &Lane, wanted: &Place) -> bool {
 // Goes to a place, and tells what that came to, and how many bytes were read for it. What is left there is to be these
 // items, and then the malformed sub-buffer of this number.
 fn go_to(
-    layout: &Layout,
     file: &mut MemFile,
     lane: &mut Lane,
     to: &Place,
     items: &str,
     bad: u64,
-) -> Option<(Result<Sought, Failed>, u64)>
-    requires in_order { IsInOrder layout.now lane.old }
-{
+) -> Option<(Result<Sought, Failed>, u64)> {
     let before = file.reads();
-    if !is_there(layout, file.len(), lane.part, to.page) {
+    if !is_there(&lane.layout, file.len(), lane.part, to.page) {
         return None;
     }
-    let sought = seek(layout, to, file, lane);
+    let sought = seek(to, file, lane);
     let read = file.reads().wrapping_sub(before);
     match sought {
         Ok(Sought::Held) => {
             file.fail_at(u64::MAX);
             let is_right = stands_at(lane, to)
-                && knows_key(layout, lane)
-                && tells(layout, file, lane, items, Ok(Loaded::Malformed(bad)));
+                && knows_key(lane)
+                && tells(file, lane, items, Ok(Loaded::Malformed(bad)));
             if is_right { Some((sought, read)) } else { None }
         }
         Ok(Sought::Malformed) | Err(Failed) => Some((sought, read)),
@@ -194,10 +174,10 @@ fn tells_part(
     let layout = layout();
     let mut file = MemFile::new(ByteText::from_vec(file_bytes(alloc)?));
     file.fail_at(byte);
-    let mut pool = Pool::new(alloc, 1, 4096, 16)?;
+    let mut pool = Pool::new(alloc, &layout, 1, 16)?;
     let lanes = pool.lanes();
-    set_part(&layout, &mut lanes[0], part);
-    let told = tells(&layout, &mut file, &mut lanes[0], items, end);
+    set_part(&mut lanes[0], part);
+    let told = tells(&mut file, &mut lanes[0], items, end);
     Ok(told && file.faults() == u64::from(end == Err(Failed)))
 }
 
@@ -211,16 +191,16 @@ fn goes_to(
 ) -> Result<Option<(Result<Sought, Failed>, u64)>, AllocError> {
     let layout = layout();
     let mut file = MemFile::new(ByteText::from_vec(file_bytes(alloc)?));
-    let mut pool = Pool::new(alloc, 1, 4096, 16)?;
+    let mut pool = Pool::new(alloc, &layout, 1, 16)?;
     let lanes = pool.lanes();
     let part = Part {
         offset: 0,
         size: 16384,
     };
-    set_part(&layout, &mut lanes[0], part);
-    go_on(&layout, &mut file, &mut lanes[0], used);
+    set_part(&mut lanes[0], part);
+    go_on(&mut file, &mut lanes[0], used);
     file.fail_at(byte);
-    Ok(go_to(&layout, &mut file, &mut lanes[0], &to, behind, 3))
+    Ok(go_to(&mut file, &mut lanes[0], &to, behind, 3))
 }
 
 // The next word of a row.

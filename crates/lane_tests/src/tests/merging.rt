@@ -5,9 +5,9 @@ ghost use Rattle.trace_outside.specs.Causes.{Rose};
 ghost use Rattle.subpage.specs.Arrangement.{CpusRise, key_of};
 ghost use Rattle.page_pool.specs.Fresh.{IsFresh};
 ghost use Rattle.event_cursor.specs.Keys.{first_of};
-ghost use Rattle.event_cursor.specs.Standing.{IsInOrder, held_left, keyed_held, most_left};
+ghost use Rattle.event_cursor.specs.Standing.{held_left, keyed_held, most_left};
 ghost use Rattle.event_cursor.specs.Stepping.{IsStepped};
-ghost use Rattle.time_merge.specs.LaneRows.{parts_of};
+ghost use Rattle.time_merge.specs.LaneRows.{HasLayout, parts_of};
 ghost use Rattle.lane_tests.specs.Through.{IsThrough};
 
 use event_cursor::{head, step};
@@ -22,20 +22,18 @@ use trace_samples::Page::{Malformed, Of};
 use trace_samples::{Page, layout, put_pages};
 
 // Uses a lane's head up, and answers its key.
-fn use_head(layout: &Layout, lane: &mut Lane) -> u64
-    requires in_order { IsInOrder layout.now lane.old }
+fn use_head(lane: &mut Lane) -> u64
     requires held { lane.old.cursor.state ≡ LaneState.Held }
-    requires some { 0 < length (held_left layout.now lane.old) }
-    ensures in_order { IsInOrder layout.now lane.new }
-    ensures used { IsStepped layout.now lane.old lane.new }
-    ensures most { most_left layout.now lane.new + 1 ≡ most_left layout.now lane.old }
-    ensures key { option_map key_of (first_of (keyed_held layout.now lane.old)) ≡ Some result }
+    requires some { 0 < length (held_left lane.old) }
+    ensures used { IsStepped lane.old lane.new }
+    ensures most { most_left lane.new + 1 ≡ most_left lane.old }
+    ensures key { option_map key_of (first_of (keyed_held lane.old)) ≡ Some result }
 {
-    let key = match head(layout, lane) {
+    let key = match head(lane) {
         Some((key, _)) => key,
         None => 0,
     };
-    step(layout, lane);
+    step(lane);
     key
 }
 
@@ -46,7 +44,7 @@ fn all_keys<F: File>(
     file: &mut F,
     lanes: &mut [Lane],
 ) -> Result<(Vec<u64>, Result<Next, Failed>), AllocError>
-    requires in_order { All (IsInOrder layout.now) lanes.old }
+    requires layouts { All (HasLayout layout.now) lanes.old }
     requires rise { CpusRise (parts_of lanes.old) }
     requires fresh { All (λ lane. IsFresh lane.cursor) lanes.old }
     ensures through { IfOk result (λ r. IfOk r.1 (λ end. IfSome (F.bytes file.old) (λ bytes.
@@ -55,9 +53,9 @@ fn all_keys<F: File>(
 {
     let mut keys = Vec::new(alloc);
     loop {
-        match next_lane(layout, file, lanes) {
+        match next_lane(file, lanes) {
             Ok(Next::Lane(i)) => {
-                let key = use_head(layout, &mut lanes[i]);
+                let key = use_head(&mut lanes[i]);
                 keys.push(key)?;
             }
             Ok(Next::Done) => return Ok((keys, Ok(Next::Done))),
@@ -119,7 +117,7 @@ fn ends_so(
         offset: 12288,
         size: 8192,
     };
-    let mut pool = pool_over(alloc, layout.page, 16, &[(3, first), (7, second)])?;
+    let mut pool = pool_over(alloc, &layout, 16, &[(3, first), (7, second)])?;
     let (keys, ended) = all_keys(alloc, &layout, &mut file, pool.lanes())?;
     Ok(ended == Ok(end) && keys.as_slice() == &KEYS[..reached.min(8)])
 }

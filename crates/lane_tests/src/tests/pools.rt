@@ -2,8 +2,13 @@ use page_pool::{Lane, LaneState, Pool, Put, Region};
 use std::alloc::{AllocError, Global};
 use std::test::Fail;
 use trace_base::Tail;
+use trace_samples::layout;
 
+// A lane that holds a sub-buffer is left as it is.
 fn write_first(lane: &mut Lane, value: u8) {
+    if lane.cursor.state != LaneState::Fresh {
+        return;
+    }
     if let Some(first) = lane.page.bytes_mut().first_mut() {
         *first = value;
     }
@@ -21,14 +26,14 @@ fn is_new(lane: &mut Lane, page: usize, text: usize, first: u8) -> bool {
 }
 
 fn are_new(alloc: Global, count: u32) -> Result<bool, AllocError> {
-    let mut pool = Pool::new(alloc, count, 64, 100)?;
+    let mut pool = Pool::new(alloc, &layout(), count, 100)?;
     let lanes = pool.lanes();
     if let Some(last) = lanes.last_mut() {
         write_first(last, 9);
     }
     for i in 0..lanes.len() {
         let first = if i + 1 == lanes.len() { 9 } else { 0 };
-        if !is_new(&mut lanes[i], 64, 100, first) {
+        if !is_new(&mut lanes[i], 4096, 100, first) {
             return Ok(false);
         }
     }
@@ -112,7 +117,7 @@ fn keeps_146_empty_lines(region: &mut Region) -> bool {
 
 #[test]
 fn lines_are_kept_until_they_are_dropped(rt: HostRuntime) -> Result<(), Fail> {
-    let mut pool = Pool::new(rt.alloc(), 1, 4096, 10)?;
+    let mut pool = Pool::new(rt.alloc(), &layout(), 1, 10)?;
     let lanes = pool.lanes();
     let region = &mut lanes[0].region;
     let is_kept = keeps_what_was_put(region) && drops_a_front(region);

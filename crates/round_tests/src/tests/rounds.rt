@@ -14,6 +14,7 @@ use std::test::Fail;
 use time_merge::Horizon;
 use tournament_tree::TournamentTree;
 use trace_outside::{Failed, MemSink, Pending, Sink};
+use trace_samples::layout;
 
 /// A line that is kept: its key, its text and its hole.
 type Kept = (u64, &'static str, Option<Hole>);
@@ -220,7 +221,7 @@ fn prints(
     last: Option<u64>,
     out: &mut MemSink,
 ) -> Result<Option<Left>, AllocError> {
-    let mut pool = Pool::new(alloc, 2, 4096, room)?;
+    let mut pool = Pool::new(alloc, &layout(), 2, room)?;
     let lanes = pool.lanes();
     fill(lanes, lines);
     let mut heads = TournamentTree::new(alloc, 2)?;

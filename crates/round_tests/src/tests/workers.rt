@@ -5,8 +5,6 @@ mod gates;
 ghost use Rattle.std.specs.Prelude.{◌≡◌, ◌+◌, ◌<◌, ◌%◌, ◌==◌, if◌then◌else◌, [], ◌∷◌, All, None, length};
 ghost use Rattle.line_holes.specs.Holes.{line_text};
 ghost use Rattle.subpage.specs.ItemData.{item_time};
-ghost use Rattle.page_pool.specs.Fresh.{IsNew};
-ghost use Rattle.event_cursor.specs.Standing.{IsInOrder};
 
 use super::times::time_of;
 use cpu_workers::{Workers, format_lanes};
@@ -17,7 +15,7 @@ use std::alloc::{AllocError, Global};
 use std::test::Fail;
 use std::thread::Threads;
 use subpage::Item;
-use trace_base::{ByteText, Layout, Part, Tail};
+use trace_base::{ByteText, Part, Tail};
 use trace_outside::{MemFile, NoGate};
 use trace_samples::Page::Of;
 use trace_samples::{Page, layout, put_pages};
@@ -58,28 +56,21 @@ fn file_of(alloc: Global, pages: &[Page<'_>]) -> Result<MemFile, AllocError> {
 }
 
 // Loads the sub-buffer of this number into a lane that is fresh.
-fn open_lane(layout: &Layout, file: &mut MemFile, lane: &mut Lane, number: u32)
-    requires in_order { IsInOrder layout.now lane.old }
-    ensures { IsInOrder layout.now lane.new }
-{
+fn open_lane(file: &mut MemFile, lane: &mut Lane, number: u32) {
     if lane.cursor.state == LaneState::Fresh {
         lane.cpu = number;
         lane.part = Part {
             offset: u64::from(number) * 4096,
             size: 4096,
         };
-        let _ = load(layout, file, lane);
+        let _ = load(file, lane);
     }
 }
 
-fn open_lanes(layout: &Layout, file: &mut MemFile, lanes: &mut [Lane], room: u32)
-    requires page { layout.now.page ≡ 4096 }
-    requires new { All (IsNew 4096 room) lanes.old }
-    ensures { All (IsInOrder layout.now) lanes.new }
-{
+fn open_lanes(file: &mut MemFile, lanes: &mut [Lane]) {
     let mut number = 0_u32;
     for i in 0..lanes.len() {
-        open_lane(layout, file, &mut lanes[i], number);
+        open_lane(file, &mut lanes[i], number);
         number = number.saturating_add(1);
     }
 }
@@ -125,16 +116,16 @@ fn formats<R: Threads + Sync>(
     }
     let layout = layout();
     let mut file = file_of(alloc, &[Of(&[4, 5, 6, 7]), Of(&[8, 9]), Of(&[])])?;
-    let mut pool = Pool::new(alloc, 3, 4096, room)?;
+    let mut pool = Pool::new(alloc, &layout, 3, room)?;
     let lanes = pool.lanes();
-    open_lanes(&layout, &mut file, lanes, room);
+    open_lanes(&mut file, lanes);
     let workers = Workers {
         rt,
         count: workers,
         shared_from,
         gate: &NoGate,
     };
-    format_lanes(&workers, &Letters, &layout, lanes, &[true; 3]);
+    format_lanes(&workers, &Letters, layout.page, lanes, &[true; 3]);
     Ok(have(lanes, first, second))
 }
 

@@ -1,10 +1,9 @@
 // Pieces of two processors' traces: measured, packed, and told from the bytes.
 
 ghost use Rattle.std.specs.Prelude.{◌≡◌, All, length};
+ghost use Rattle.trace_base.specs.declared.layout.Layout.{Layout};
 ghost use Rattle.subpage.specs.Arrangement.{CpusRise};
-ghost use Rattle.page_pool.specs.Fresh.{IsNew};
-ghost use Rattle.event_cursor.specs.Standing.{IsInOrder};
-ghost use Rattle.time_merge.specs.LaneRows.{parts_of};
+ghost use Rattle.time_merge.specs.LaneRows.{HasLayout, parts_of};
 
 use super::items::put_sub_buffers;
 use super::lanes::set_lanes;
@@ -176,12 +175,11 @@ pub(super) fn parts_in_row(layout: &Layout, counts: [usize; 2]) -> [(u32, Part);
 /// Gives two lanes the same parts.
 pub(super) fn set_parts(layout: &Layout, lanes: &mut [Lane], counts: [usize; 2])
     requires two { length lanes.old ≡ 2 }
-    requires new { All (IsNew layout.now.page 0) lanes.old }
-    ensures in_order { All (IsInOrder layout.now) lanes.new }
+    ensures layouts { (layout : Layout) → All (HasLayout layout) lanes.old → All (HasLayout layout) lanes.new }
     ensures rise { CpusRise (parts_of lanes.new) }
 {
     let parts = parts_in_row(layout, counts);
-    set_lanes(layout, lanes, 0, &[parts[0].1, parts[1].1]);
+    set_lanes(lanes, 0, &[parts[0].1, parts[1].1]);
 }
 
 fn bytes_of(alloc: Global, cpus: [&[Page<'_>]; 2]) -> Result<Vec<u8>, Fail> {

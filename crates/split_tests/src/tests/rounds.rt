@@ -20,15 +20,15 @@ fn round_of(alloc: Global, cpus: [&[Page<'_>]; 2], unit: PieceUnit) -> Result<Op
     put_pages(&mut bytes, cpus[0])?;
     put_pages(&mut bytes, cpus[1])?;
     let mut file = WatchedFile::good(bytes);
-    let mut pool = Pool::new(alloc, 2, layout.page, 0)?;
+    let mut pool = Pool::new(alloc, &layout, 2, 0)?;
     let lanes = pool.lanes();
     set_parts(&layout, lanes, [cpus[0].len(), cpus[1].len()]);
     let mut tallies = [Tally::new(), Tally::new()];
     let mut gauge = Gauge::new(unit);
-    if make_all_ready(&layout, &mut file, lanes).is_err() {
+    if make_all_ready(&mut file, lanes).is_err() {
         return Ok(None);
     }
-    Ok(take_round(&layout, lanes, None, &mut gauge, &mut tallies))
+    Ok(take_round(lanes, None, &mut gauge, &mut tallies))
 }
 
 const EVEN: &[Page] = &[Of(&[10, 12, 14, 16, 18, 20])];

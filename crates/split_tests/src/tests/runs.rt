@@ -2,7 +2,7 @@
 
 ghost use Rattle.std.specs.Prelude.{◌≡◌, ◌<◌, ◌≤◌, length, IsTrue};
 ghost use Rattle.page_pool.specs.declared.cursor.LaneState.{LaneState};
-ghost use Rattle.event_cursor.specs.Standing.{IsInOrder, held_left};
+ghost use Rattle.event_cursor.specs.Standing.{held_left};
 
 use super::passes::{parts_in_row, pass_piece, set_parts};
 use super::watched::WatchedFile;
@@ -268,31 +268,29 @@ fn runs_end_with_the_room(rt: HostRuntime) -> Result<(), Fail> {
 }
 
 // Loads a sub-buffer into a lane that is fresh, and tells whether it has an item.
-fn loads<F: File>(layout: &Layout, file: &mut F, lane: &mut Lane) -> bool
-    requires in_order { IsInOrder layout.now lane.old }
-    ensures in_order { IsInOrder layout.now lane.new }
+fn loads<F: File>(file: &mut F, lane: &mut Lane) -> bool
+    ensures layout { lane.new.layout ≡ lane.old.layout }
     ensures held { IsTrue result → lane.new.cursor.state ≡ LaneState.Held }
-    ensures some { IsTrue result → 0 < length (held_left layout.now lane.new) }
+    ensures some { IsTrue result → 0 < length (held_left lane.new) }
 {
     if lane.cursor.state != LaneState::Fresh {
         return false;
     }
-    matches!(load(layout, file, lane), Ok(Loaded::Loaded))
+    matches!(load(file, lane), Ok(Loaded::Loaded))
 }
 
 // How many events a run has that follows a lane's first item.
-fn run_after_first(layout: &Layout, lane: &mut Lane, packer: &mut Packer<'_>) -> u64
-    requires in_order { IsInOrder layout.now lane.old }
+fn run_after_first(lane: &mut Lane, packer: &mut Packer<'_>) -> u64
     requires held { lane.old.cursor.state ≡ LaneState.Held }
-    requires some { 0 < length (held_left layout.now lane.old) }
-    requires same { packer.old.layout ≡ layout.now }
+    requires some { 0 < length (held_left lane.old) }
+    requires same { packer.old.layout ≡ lane.old.layout }
 {
-    let Some((_, item)) = packable_head(layout, lane) else {
+    let Some((_, item)) = packable_head(lane) else {
         return 0;
     };
     packer.add(&item);
-    step(layout, lane);
-    pack_run(layout, lane, packer, u64::MAX)
+    step(lane);
+    pack_run(lane, packer, u64::MAX)
 }
 
 // The same of a sub-buffer with events at these times.
@@ -303,12 +301,12 @@ fn run_of(alloc: Global, times: &[u64]) -> Result<u64, Fail> {
     let mut file = WatchedFile::good(bytes);
     let mut page = [0xff; 4096];
     let mut packer = Packer::new(&layout, &mut page);
-    let mut pool = Pool::new(alloc, 2, layout.page, 0)?;
+    let mut pool = Pool::new(alloc, &layout, 2, 0)?;
     let lanes = pool.lanes();
     set_parts(&layout, lanes, [1, 0]);
     let lane = &mut lanes[0];
-    if loads(&layout, &mut file, lane) {
-        Ok(run_after_first(&layout, lane, &mut packer))
+    if loads(&mut file, lane) {
+        Ok(run_after_first(lane, &mut packer))
     } else {
         Ok(u64::MAX)
     }

@@ -13,7 +13,7 @@ pub loop-i-preserved : goal.loop-i-preserved
 loop-i-preserved c =
     let before = c.loop-i.invariant in
     let mark : IsFirstMark c.args.moved.now c.loop-i.from c.in-Some.i = c.in-Some.ensures in
-    let more = busy_more c.args.layout.now c.args.lanes.now c.args.moved.now c.loop-i.from c.in-Some.i c.index-lanes-i.result c.may_form.result c.requires.marks mark c.index-lanes-i.is c.may_form.ensures in
+    let more = busy_more c.args.lanes.now c.args.moved.now c.loop-i.from c.in-Some.i c.index-lanes-i.result c.may_form.result c.requires.marks mark c.index-lanes-i.is c.may_form.ensures in
     let one : Bool → ℕ = λ b. cond b 1 0 in
     elim c.if-may_form.branch [
       | then-may_form w ↦ record {
@@ -31,4 +31,4 @@ loop-i-preserved c =
 pub returns : goal.returns
 returns c =
     let before = c.loop-i.invariant in
-    omega (arith, before.busy, busy_all c.args.layout.now c.args.lanes.now c.args.moved.now c.loop-i.from c.requires.marks before.within c.in_default.ensures)
+    omega (arith, before.busy, busy_all c.args.lanes.now c.args.moved.now c.loop-i.from c.requires.marks before.within c.in_default.ensures)

@@ -4,7 +4,7 @@ use Rattle.cpu_workers.proofs.shares.busy_lanes.Given as goal
 
 abbrev pub invariant-loop-i : goal.invariant-loop-i
 invariant-loop-i l = record {
-  busy : l.busy ≡ busy_lanes l.layout (take l.from l.lanes) (take l.from l.moved);
+  busy : l.busy ≡ busy_lanes (take l.from l.lanes) (take l.from l.moved);
   few : l.busy ≤ l.from;
   within : l.from ≤ length l.moved;
 }

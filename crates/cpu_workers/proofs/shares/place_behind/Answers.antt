@@ -13,7 +13,7 @@ pub loop-left-preserved : goal.loop-left-preserved
 loop-left-preserved c =
     let before = c.loop-left.invariant in
     let mark : IsFirstMark c.args.moved.now c.loop-left.from c.in-Some.i = c.in-Some.ensures in
-    let more = busy_more c.args.layout.now c.args.lanes.now c.args.moved.now c.loop-left.from c.in-Some.i c.index-lanes-i.result c.may_form.result c.requires.marks mark c.index-lanes-i.is c.may_form.ensures in
+    let more = busy_more c.args.lanes.now c.args.moved.now c.loop-left.from c.in-Some.i c.index-lanes-i.result c.may_form.result c.requires.marks mark c.index-lanes-i.is c.may_form.ensures in
     let one : Bool → ℕ = λ b. cond b 1 0 in
     elim c.if-may_form.branch [
       | then-may_form w ↦ record {
@@ -29,4 +29,4 @@ loop-left-preserved c =
 pub returns-in_default-clause-count : goal.returns-in_default-clause-count
 returns-in_default-clause-count c =
     let before = c.loop-left.invariant in
-    omega (arith, before.count, c.requires.enough, busy_all c.args.layout.now c.args.lanes.now c.args.moved.now c.loop-left.from c.requires.marks before.within c.in_default.ensures)
+    omega (arith, before.count, c.requires.enough, busy_all c.args.lanes.now c.args.moved.now c.loop-left.from c.requires.marks before.within c.in_default.ensures)

@@ -4,7 +4,7 @@ use Rattle.cpu_workers.proofs.shares.place_behind.Given as goal
 
 abbrev pub invariant-loop-left : goal.invariant-loop-left
 invariant-loop-left l = record {
-  count : busy_lanes l.layout (take l.from l.lanes) (take l.from l.moved) + l.left ≡ l.fn.count;
+  count : busy_lanes (take l.from l.lanes) (take l.from l.moved) + l.left ≡ l.fn.count;
   within : l.from ≤ length l.moved;
 }
 

@@ -7,13 +7,12 @@ use Rattle.cpu_workers.proofs.shares.threads_for.Goals.{then-asked-eq1-via-then-
 
 pub returns-then-asked-eq1-clause-value : goal.returns-then-asked-eq1-clause-value
 returns-then-asked-eq1-clause-value c =
-    let l = c.args.layout.now in
     let lanes = c.args.lanes.now in
     let from = c.args.shared_from in
-    let busy = busy_lanes l lanes c.args.moved.now in
+    let busy = busy_lanes lanes c.args.moved.now in
     elim c.then-asked-eq1.branch [
-      | then-asked-eq1-via-then-asked-eq1 w ↦ sym (ap (λ (n : ℕ). threads_for n from l.page busy) w.if-asked-eq1.true ∙ one_asked from l.page busy)
+      | then-asked-eq1-via-then-asked-eq1 w ↦ sym (ap (λ (n : ℕ). threads_for n from c.args.page busy) w.if-asked-eq1.true ∙ one_asked from c.args.page busy)
       | then-asked-eq1-via-else-asked-eq1+then-not-are_worth w ↦
-          let few : are_worth from l.page (length lanes) ≡ false = search rules in
-          sym (few_lanes c.args.asked from l.page busy (length lanes) (busy_most l lanes c.args.moved.now) few)
+          let few : are_worth from c.args.page (length lanes) ≡ false = search rules in
+          sym (few_lanes c.args.asked from c.args.page busy (length lanes) (busy_most lanes c.args.moved.now) few)
     ]

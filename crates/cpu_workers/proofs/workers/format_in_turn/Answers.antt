@@ -13,7 +13,6 @@ loop-i-smaller g c =
 pub loop-i-preserved : goal.loop-i-preserved
 loop-i-preserved g c =
     let text = g.L.LineFormat.text c.args.form.now in
-    let layout = c.args.layout.now in
     let first = c.args.lanes.now in
     let moved = c.args.moved.now in
     let now = c.loop-i.lanes in
@@ -28,8 +27,8 @@ loop-i-preserved g c =
     record {
       within = omega (arith, mark.inside);
       count = length-set now i new ∙ before.count;
-      done = λ k d less. one_more text layout first now i c.index-lanes-i.result new inside
-          (all_passed text layout first now moved from i marked mark.behind (omega (arith, mark.inside)) mark.none before.done before.rest) rest c.format_behind.ensures k d (omega (arith, less));
+      done = λ k d less. one_more text first now i c.index-lanes-i.result new inside
+          (all_passed text first now moved from i marked mark.behind (omega (arith, mark.inside)) mark.none before.done before.rest) rest c.format_behind.ensures k d (omega (arith, less));
       rest = λ k d behind. rest_more first now i new rest k d (omega (arith, behind, mark.inside));
       kept = kept_more moved first now i new (get_or_default moved i true false mark.inside ∙ mark.marked) before.kept;
     }
@@ -41,7 +40,7 @@ returns g c =
     let marked = c.requires.marked in
     record {
       count = before.count;
-      each = λ k d inside. all_passed (g.L.LineFormat.text c.args.form.now) c.args.layout.now c.args.lanes.now c.loop-i.lanes moved c.loop-i.from (length moved)
+      each = λ k d inside. all_passed (g.L.LineFormat.text c.args.form.now) c.args.lanes.now c.loop-i.lanes moved c.loop-i.from (length moved)
           marked before.within (omega arith) c.in_default.ensures before.done before.rest k d (omega (arith, inside, marked.marks));
       unmoved = before.kept;
     }

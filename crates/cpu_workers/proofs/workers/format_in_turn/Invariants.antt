@@ -8,7 +8,7 @@ abbrev pub invariant-loop-i : goal.invariant-loop-i
 invariant-loop-i g l = record {
   within : l.from ≤ length l.moved;
   count : length l.lanes ≡ length l.fn.lanes;
-  done : (k : ℕ) (d : Lane) → k < l.from → IsFormatted (g.L.LineFormat.text l.form) l.layout (slice_index_or l.fn.lanes k d) (slice_index_or l.lanes k d);
+  done : (k : ℕ) (d : Lane) → k < l.from → IsFormatted (g.L.LineFormat.text l.form) (slice_index_or l.fn.lanes k d) (slice_index_or l.lanes k d);
   rest : (k : ℕ) (d : Lane) → l.from ≤ k → slice_index_or l.lanes k d ≡ slice_index_or l.fn.lanes k d;
   kept : KeepsUnmoved l.moved l.fn.lanes l.lanes;
 }

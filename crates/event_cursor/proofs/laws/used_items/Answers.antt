@@ -4,4 +4,4 @@ use Rattle.event_cursor.proofs.UsedItems.{used_are}
 use Rattle.event_cursor.proofs.laws.used_items.Goals as goal
 
 pub returns : goal.returns
-returns c = λ l file lane order stands held. used_are l file lane (omega (arith, (carried l).page_least)) order stands held
+returns c = λ file lane stands held. used_are file lane (omega (arith, (carried lane.layout).page_least)) stands held

@@ -8,6 +8,7 @@ use Rattle.page_pool.proofs.Keeping.{lane_kept}
 use Rattle.page_pool.specs.declared.cursor.LaneState.{LaneState}
 use Rattle.page_pool.specs.declared.cursor.LaneState.TheVariants.{Fresh, Held, Ended}
 use Rattle.page_pool.specs.declared.lane.Lane.{Lane}
+use Rattle.page_pool.specs.InOrder.{IsInOrder}
 use Rattle.page_pool.specs.Keeping.{KeepsLane, loading}
 use Rattle.event_cursor.specs.Standing.{OwnIfHeld}
 use Rattle.event_cursor.specs.Unread.{first_unread, size_from, unread}
@@ -18,125 +19,116 @@ use Rattle.event_cursor.proofs.Leaving.{stays, at_end, keeps_trans, stands_answe
 use Rattle.event_cursor.proofs.loading.load.Goals as goal
 
 -- the lane in another state
-in_state : (a : Lane) (s : LaneState) → KeepsLane loading a (record a { cursor = record a.cursor { state = s } })
-in_state a s = record { cpu = refl; part = refl; region = refl; page = tt; state = tt; held = tt; next = tt; forward = omega arith; high = refl; cursor = tt }
+in_state : (a : Lane) (s : LaneState) (order : IsInOrder a.layout a.page (record a.cursor { state = s }))
+    → KeepsLane loading a (record a { cursor = record a.cursor { state = s }; in_order = order })
+in_state a s order = record { cpu = refl; layout = refl; part = refl; region = refl; page = tt; state = tt; held = tt; next = tt; forward = omega arith; high = refl; cursor = tt }
 
 pub loop-lane-init : goal.loop-lane-init
 loop-lane-init g c = record {
-  long = c.requires.in_order.long;
   fresh = refl;
-  place = in_state c.args.lane.now Fresh;
+  place = in_state c.args.lane.now Fresh _;
   most = search rules;
   reads = omega arith;
-  unread = open_le (size_from c.args.layout.now (g.F.File.size c.args.file.now) c.args.lane.now.part) c.args.lane.now.cursor.state c.args.lane.now.cursor.next c.requires.sound;
-  left = told_all _ (g.F.File.bytes c.args.file.now) (λ file. stays c.args.layout.now file c.args.lane.now _ c.requires.used_up refl refl refl);
+  unread = open_le (size_from c.args.lane.now.layout (g.F.File.size c.args.file.now) c.args.lane.now.part) c.args.lane.now.cursor.state c.args.lane.now.cursor.next c.requires.sound;
+  left = told_all _ (g.F.File.bytes c.args.file.now) (λ file. stays file c.args.lane.now _ c.requires.used_up refl refl refl refl);
   keeps = file_still _ _;
   faults = refl;
 }
 
 pub loop-lane-preserved : goal.loop-lane-preserved
 loop-lane-preserved g c =
-    let l = c.args.layout.now in
     let n = c.in_ok-answer.ensures in
     let inv = c.loop-lane.invariant in
     let told = g.F.File.bytes c.args.file.now in
-    let passed = subst (λ (o : Option Loaded). ComesTo l (g.F.File.size c.loop-lane.file) c.loop-lane.lane c.load_next.new.lane o) c.in_default.is n.comes in
-    let left = subst (λ (o : Option (List ℕ)). IfSome o (λ file. KeepsLeft l file c.loop-lane.lane c.load_next.new.lane)) inv.keeps.bytes n.left in
+    let passed = subst (λ (o : Option Loaded). ComesTo (g.F.File.size c.loop-lane.file) c.loop-lane.lane c.load_next.new.lane o) c.in_default.is n.comes in
+    let left = subst (λ (o : Option (List ℕ)). IfSome o (λ file. KeepsLeft file c.loop-lane.lane c.load_next.new.lane)) inv.keeps.bytes n.left in
     record {
-      long = n.in_order.long;
       fresh = passed.fresh;
       place = lane_kept inv.place n.place;
       most = omega (arith, n.most, inv.most);
-      reads = passed_reads l (g.F.File.size c.args.file.now) (g.F.File.size c.loop-lane.file) c.args.lane.now c.loop-lane.lane c.load_next.new.lane inv.keeps.size _ _ _ inv.reads inv.unread n.reads passed.read;
-      unread = passed_less l (g.F.File.size c.args.file.now) (g.F.File.size c.loop-lane.file) c.args.lane.now c.loop-lane.lane c.load_next.new.lane inv.keeps.size _ _ _ inv.reads inv.unread n.reads passed.read;
-      left = told_both _ _ _ told (λ file k k2. keeps_trans l file c.args.lane.now c.loop-lane.lane c.load_next.new.lane k k2) inv.left left;
+      reads = passed_reads (g.F.File.size c.args.file.now) (g.F.File.size c.loop-lane.file) c.args.lane.now c.loop-lane.lane c.load_next.new.lane inv.keeps.size _ _ _ inv.reads inv.unread n.reads passed.read;
+      unread = passed_less (g.F.File.size c.args.file.now) (g.F.File.size c.loop-lane.file) c.args.lane.now c.loop-lane.lane c.load_next.new.lane inv.keeps.size _ _ _ inv.reads inv.unread n.reads passed.read;
+      left = told_both _ _ _ told (λ file k k2. keeps_trans file c.args.lane.now c.loop-lane.lane c.load_next.new.lane k k2) inv.left left;
       keeps = file_kept inv.keeps n.keeps;
       faults = n.cause.kept ∙ inv.faults;
     }
 
 pub returns-in-Some-clause-state : goal.returns-in-Some-clause-state
 returns-in-Some-clause-state g c =
-    (subst (λ (o : Option Loaded). ComesTo c.args.layout.now (g.F.File.size c.loop-lane.file) c.loop-lane.lane c.load_next.new.lane o) c.in-Some.is c.in_ok-answer.ensures.comes).0
+    (subst (λ (o : Option Loaded). ComesTo (g.F.File.size c.loop-lane.file) c.loop-lane.lane c.load_next.new.lane o) c.in-Some.is c.in_ok-answer.ensures.comes).0
 
 pub returns-in-Some-clause-answer : goal.returns-in-Some-clause-answer
 returns-in-Some-clause-answer g c =
-    let l = c.args.layout.now in
     let told = g.F.File.bytes c.args.file.now in
-    subst (λ (o : Option (List ℕ)). IfSome o (λ file. IsAnswer l file c.load_next.new.lane c.in-Some.answer)) c.loop-lane.invariant.keeps.bytes
-    (subst (λ (o : Option Loaded). IfSome (g.F.File.bytes c.loop-lane.file) (λ file. IfSome o (IsAnswer l file c.load_next.new.lane))) c.in-Some.is c.in_ok-answer.ensures.answer)
+    subst (λ (o : Option (List ℕ)). IfSome o (λ file. IsAnswer file c.load_next.new.lane c.in-Some.answer)) c.loop-lane.invariant.keeps.bytes
+    (subst (λ (o : Option Loaded). IfSome (g.F.File.bytes c.loop-lane.file) (λ file. IfSome o (IsAnswer file c.load_next.new.lane))) c.in-Some.is c.in_ok-answer.ensures.answer)
 
 pub returns-in-Some-clause-loads : goal.returns-in-Some-clause-loads
 returns-in-Some-clause-loads g c =
-    let l = c.args.layout.now in
     let told = g.F.File.bytes c.args.file.now in
     let size = g.F.File.size c.args.file.now in
     let inv = c.loop-lane.invariant in
     let same : g.F.File.bytes c.loop-lane.file ≡ told = inv.keeps.bytes in
     let n = c.in_ok-answer.ensures in
-    let comes = subst (λ (o : Option Loaded). ComesTo l (g.F.File.size c.loop-lane.file) c.loop-lane.lane c.load_next.new.lane o) c.in-Some.is n.comes in
-    let left = subst (λ (o : Option (List ℕ)). IfSome o (λ file. KeepsLeft l file c.loop-lane.lane c.load_next.new.lane)) same n.left in
+    let comes = subst (λ (o : Option Loaded). ComesTo (g.F.File.size c.loop-lane.file) c.loop-lane.lane c.load_next.new.lane o) c.in-Some.is n.comes in
+    let left = subst (λ (o : Option (List ℕ)). IfSome o (λ file. KeepsLeft file c.loop-lane.lane c.load_next.new.lane)) same n.left in
     record {
-      in_order = n.in_order;
       readied = record {
         place = lane_kept inv.place n.place;
-        left = told_both _ _ _ told (λ file k k2. keeps_trans l file c.args.lane.now c.loop-lane.lane c.load_next.new.lane k k2) inv.left left;
-        stands = stands_answered l told c.args.lane.now c.loop-lane.lane c.load_next.new.lane c.in-Some.answer inv.left left inv.place n.place comes.0
-            (subst (λ (o : Option (List ℕ)). IfSome o (λ file. IsAnswer l file c.load_next.new.lane c.in-Some.answer)) same
-            (subst (λ (o : Option Loaded). IfSome (g.F.File.bytes c.loop-lane.file) (λ file. IfSome o (IsAnswer l file c.load_next.new.lane))) c.in-Some.is n.answer))
-            (subst (λ (o : Option (List ℕ)). IfSome o (λ file. OwnIfHeld l file c.load_next.new.lane)) same n.own);
+        left = told_both _ _ _ told (λ file k k2. keeps_trans file c.args.lane.now c.loop-lane.lane c.load_next.new.lane k k2) inv.left left;
+        stands = stands_answered told c.args.lane.now c.loop-lane.lane c.load_next.new.lane c.in-Some.answer inv.left left inv.place n.place comes.0
+            (subst (λ (o : Option (List ℕ)). IfSome o (λ file. IsAnswer file c.load_next.new.lane c.in-Some.answer)) same
+            (subst (λ (o : Option Loaded). IfSome (g.F.File.bytes c.loop-lane.file) (λ file. IfSome o (IsAnswer file c.load_next.new.lane))) c.in-Some.is n.answer))
+            (subst (λ (o : Option (List ℕ)). IfSome o (λ file. OwnIfHeld file c.load_next.new.lane)) same n.own);
         most = omega (arith, n.most, inv.most);
       };
-      reads = asked_reads l size (g.F.File.size c.loop-lane.file) c.args.lane.now c.loop-lane.lane c.load_next.new.lane inv.keeps.size _ _ _ inv.reads inv.unread n.reads comes.1;
-      unread = asked_less l size (g.F.File.size c.loop-lane.file) c.args.lane.now c.loop-lane.lane c.load_next.new.lane inv.keeps.size _ _ _ inv.reads inv.unread n.reads comes.1;
+      reads = asked_reads size (g.F.File.size c.loop-lane.file) c.args.lane.now c.loop-lane.lane c.load_next.new.lane inv.keeps.size _ _ _ inv.reads inv.unread n.reads comes.1;
+      unread = asked_less size (g.F.File.size c.loop-lane.file) c.args.lane.now c.loop-lane.lane c.load_next.new.lane inv.keeps.size _ _ _ inv.reads inv.unread n.reads comes.1;
       keeps = file_kept inv.keeps n.keeps;
     }
 
 pub returns-in_err-answer-clause-loads : goal.returns-in_err-answer-clause-loads
 returns-in_err-answer-clause-loads g c =
-    let l = c.args.layout.now in
     let told = g.F.File.bytes c.args.file.now in
     let size = g.F.File.size c.args.file.now in
     let inv = c.loop-lane.invariant in
     let same : g.F.File.bytes c.loop-lane.file ≡ told = inv.keeps.bytes in
     let n = c.in_err-answer.ensures in
-    let left = subst (λ (o : Option (List ℕ)). IfSome o (λ file. KeepsLeft l file c.loop-lane.lane c.load_next.new.lane)) same n.left in
+    let left = subst (λ (o : Option (List ℕ)). IfSome o (λ file. KeepsLeft file c.loop-lane.lane c.load_next.new.lane)) same n.left in
     record {
-      in_order = n.in_order;
       readied = record {
         place = lane_kept inv.place n.place;
-        left = told_both _ _ _ told (λ file k k2. keeps_trans l file c.args.lane.now c.loop-lane.lane c.load_next.new.lane k k2) inv.left left;
-        stands = stands_failed l told c.args.lane.now c.loop-lane.lane c.load_next.new.lane inv.left left inv.place n.place n.failed
-            (subst (λ (o : Option (List ℕ)). IfSome o (λ file. OwnIfHeld l file c.load_next.new.lane)) same n.own);
+        left = told_both _ _ _ told (λ file k k2. keeps_trans file c.args.lane.now c.loop-lane.lane c.load_next.new.lane k k2) inv.left left;
+        stands = stands_failed told c.args.lane.now c.loop-lane.lane c.load_next.new.lane inv.left left inv.place n.place n.failed
+            (subst (λ (o : Option (List ℕ)). IfSome o (λ file. OwnIfHeld file c.load_next.new.lane)) same n.own);
         most = omega (arith, n.most, inv.most);
       };
-      reads = asked_reads l size (g.F.File.size c.loop-lane.file) c.args.lane.now c.loop-lane.lane c.load_next.new.lane inv.keeps.size _ _ _ inv.reads inv.unread n.reads n.asked;
-      unread = asked_less l size (g.F.File.size c.loop-lane.file) c.args.lane.now c.loop-lane.lane c.load_next.new.lane inv.keeps.size _ _ _ inv.reads inv.unread n.reads n.asked;
+      reads = asked_reads size (g.F.File.size c.loop-lane.file) c.args.lane.now c.loop-lane.lane c.load_next.new.lane inv.keeps.size _ _ _ inv.reads inv.unread n.reads n.asked;
+      unread = asked_less size (g.F.File.size c.loop-lane.file) c.args.lane.now c.loop-lane.lane c.load_next.new.lane inv.keeps.size _ _ _ inv.reads inv.unread n.reads n.asked;
       keeps = file_kept inv.keeps n.keeps;
     }
 
 pub returns-clause-answer : goal.returns-clause-answer
 returns-clause-answer g c =
-    let all : page_count c.args.layout.now c.loop-lane.lane.part ≤ c.loop-lane.lane.cursor.next = search rules in
-    told_all _ (g.F.File.bytes c.args.file.now) (λ file. at_end c.args.layout.now file _ refl all)
+    let all : page_count c.loop-lane.lane.layout c.loop-lane.lane.part ≤ c.loop-lane.lane.cursor.next = search rules in
+    told_all _ (g.F.File.bytes c.args.file.now) (λ file. at_end file _ refl all)
 
 pub returns-clause-loads : goal.returns-clause-loads
 returns-clause-loads g c =
-    let l = c.args.layout.now in
     let told = g.F.File.bytes c.args.file.now in
     let size = g.F.File.size c.args.file.now in
     let inv = c.loop-lane.invariant in
     let mid = c.loop-lane.lane in
-    let all : page_count l mid.part ≤ mid.cursor.next = search rules in
-    let still = told_all _ told (λ file. stays l file mid _ (search rules) refl refl refl) in
-    let place = in_state mid Ended in
-    let not_read : unread l size mid ≡ size_from l size mid.part mid.cursor.next = ap (λ (s : LaneState). size_from l size mid.part (first_unread s mid.cursor.next)) inv.fresh in
+    let all : page_count mid.layout mid.part ≤ mid.cursor.next = search rules in
+    let still = told_all _ told (λ file. stays file mid _ (search rules) refl refl refl refl) in
+    let place = in_state mid Ended _ in
+    let not_read : unread size mid ≡ size_from mid.layout size mid.part mid.cursor.next = ap (λ (s : LaneState). size_from mid.layout size mid.part (first_unread s mid.cursor.next)) inv.fresh in
     record {
-      in_order = record { long = inv.long; held = λ e. let never : Ended ≡ Held = e in absurd cc };
       readied = record {
         place = lane_kept inv.place place;
-        left = told_both _ _ _ told (λ file k k2. keeps_trans l file c.args.lane.now mid _ k k2) inv.left still;
-        stands = stands_answered l told c.args.lane.now mid _ loaded.End inv.left still inv.place place refl
-            (told_all _ told (λ file. at_end l file _ refl all))
+        left = told_both _ _ _ told (λ file k k2. keeps_trans file c.args.lane.now mid _ k k2) inv.left still;
+        stands = stands_answered told c.args.lane.now mid _ loaded.End inv.left still inv.place place refl
+            (told_all _ told (λ file. at_end file _ refl all))
             (told_all _ told (λ file e. let never : Ended ≡ Held = e in absurd cc));
         most = inv.most;
       };

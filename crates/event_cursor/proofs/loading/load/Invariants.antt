@@ -1,4 +1,4 @@
-use Rattle.std.proofs.Common.{◌≡◌, ◌-◌, ◌≤◌, length}
+use Rattle.std.proofs.Common.{◌≡◌, ◌-◌, ◌≤◌}
 use Rattle.std.specs.Option.{IfSome}
 use Rattle.trace_outside.specs.Causes.{raised}
 use Rattle.trace_outside.specs.Keeping.{KeepsFile}
@@ -11,15 +11,14 @@ use Rattle.event_cursor.proofs.loading.load.Given as goal
 
 abbrev pub invariant-loop-lane : goal.invariant-loop-lane
 invariant-loop-lane g l = record {
-  long : length l.lane.page ≡ l.layout.page;
   fresh : l.lane.cursor.state ≡ Fresh;
   place : KeepsLane loading l.fn.lane l.lane;
-  most : most_left l.layout l.lane ≤ most_left l.layout l.fn.lane;
+  most : most_left l.lane ≤ most_left l.fn.lane;
   reads : g.F.File.reads l.file
       ≤ raised (g.F.File.reads l.fn.file)
-      (unread l.layout (g.F.File.size l.fn.file) l.fn.lane - unread l.layout (g.F.File.size l.fn.file) l.lane);
-  unread : unread l.layout (g.F.File.size l.fn.file) l.lane ≤ unread l.layout (g.F.File.size l.fn.file) l.fn.lane;
-  left : IfSome (g.F.File.bytes l.fn.file) (λ bytes. KeepsLeft l.layout bytes l.fn.lane l.lane);
+      (unread (g.F.File.size l.fn.file) l.fn.lane - unread (g.F.File.size l.fn.file) l.lane);
+  unread : unread (g.F.File.size l.fn.file) l.lane ≤ unread (g.F.File.size l.fn.file) l.fn.lane;
+  left : IfSome (g.F.File.bytes l.fn.file) (λ bytes. KeepsLeft bytes l.fn.lane l.lane);
   keeps : KeepsFile g.F.File l.fn.file l.file;
   faults : g.F.File.faults l.file ≡ g.F.File.faults l.fn.file;
 }

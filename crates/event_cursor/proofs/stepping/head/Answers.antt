@@ -3,7 +3,8 @@ use Rattle.subpage.specs.Marks.{items_from}
 use Rattle.page_pool.specs.declared.cursor.LaneState.{LaneState}
 use Rattle.page_pool.specs.declared.cursor.LaneState.TheVariants.{Held}
 use Rattle.event_cursor.specs.Keys.{first_of, keyed_behind}
-use Rattle.event_cursor.specs.Standing.{TellsAhead, if_held}
+use Rattle.page_pool.specs.InOrder.{TellsAhead}
+use Rattle.event_cursor.specs.Standing.{if_held}
 use Rattle.event_cursor.specs.Stepping.{IsHead}
 use Rattle.event_cursor.proofs.OneOn.{head_is}
 use Rattle.event_cursor.proofs.stepping.head.Goals as goal
@@ -12,12 +13,12 @@ pub head_at-requires : goal.head_at-requires
 head_at-requires c =
     let a = c.args.lane.now in
     let held : a.cursor.state ≡ Held = search rules in
-    subst (λ (p : List ℕ). TellsAhead c.args.layout.now p a.cursor.mark a.cursor.high a.cursor.ahead) (sym c.bytes.ensures) (c.requires.held held).ahead
+    subst (λ (p : List ℕ). TellsAhead a.layout p a.cursor.mark a.cursor.high a.cursor.ahead) (sym c.bytes.ensures) (a.in_order.held held).ahead
 
 pub returns : goal.returns
 returns c =
-    let l = c.args.layout.now in
     let a = c.args.lane.now in
+    let l = a.layout in
     let held : a.cursor.state ≡ Held = search rules in
     let items = items_from l a.page a.cursor.mark in
     let first : IsHead a.cursor.high items c.head_at.result = subst (λ (p : List ℕ). IsHead a.cursor.high (items_from l p a.cursor.mark) c.head_at.result) c.bytes.ensures c.head_at.ensures in

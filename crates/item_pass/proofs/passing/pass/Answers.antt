@@ -1,5 +1,5 @@
-use Rattle.std.proofs.Common.{◌≡◌, ◌≤◌, ℕ, List, IfOk, IfSome, sum_by, subst}
-use Rattle.std.specs.List.{filter}
+use Rattle.std.proofs.Common.{◌≡◌, ◌≤◌, ℕ, List, IfOk, IfSome, sum_by, subst, sym}
+use Rattle.std.specs.List.{All, filter}
 use Rattle.std.specs.Prelude.{OnOk}
 use Rattle.trace_base.specs.declared.layout.Layout.{Layout}
 use Rattle.trace_base.specs.declared.part.Part.{Part}
@@ -7,12 +7,12 @@ use Rattle.trace_outside.specs.Causes.{raised}
 use Rattle.subpage.specs.Cut.{cut_of, reached_of}
 use Rattle.time_merge.specs.LaneRows.{parts_of}
 use Rattle.time_merge.specs.Skipping.{by_item}
-use Rattle.time_merge.proofs.UnusedLanes.{unused_fresh}
+use Rattle.time_merge.specs.Unused.{IsUnused}
 use Rattle.item_pass.specs.Gathering.{cut_place}
 use Rattle.item_pass.proofs.passing.pass.Goals as goal
 
-pub pass_lanes-requires-clause-fresh : goal.pass_lanes-requires-clause-fresh
-pass_lanes-requires-clause-fresh g c = unused_fresh c.args.layout.now.page 0 _ c.in-Ok.ensures.unused
+pub pass_lanes-requires-clause-unused : goal.pass_lanes-requires-clause-unused
+pass_lanes-requires-clause-unused g c = subst (λ (l : Layout). All (IsUnused l 0) c.in-Ok.lanes.all) (sym c.in-Ok.ensures.layout) c.in-Ok.ensures.unused
 
 pub returns-clause-gathered : goal.returns-clause-gathered
 returns-clause-gathered g c =

@@ -13,17 +13,18 @@ use Rattle.time_merge.specs.Loading.{LoadsLanes}
 use Rattle.time_merge.specs.Nexts.{IsNextLane}
 use Rattle.time_merge.specs.Rows.{least_cut}
 use Rattle.time_merge.specs.Skipping.{IsLaneUsedUp}
+use Rattle.time_merge.proofs.UnusedLanes.{unused_fresh, unused_layouts}
 use Rattle.time_merge.proofs.PartReads.{going_reads, reads_inside}
 use Rattle.item_pass.specs.Gathering.{and_item}
-use Rattle.item_pass.proofs.PassSteps.{a_lane, begins, loaded, goes_on, all_passed, no_cut, one_cut, using_fewer, using_parts, using_unread}
+use Rattle.item_pass.proofs.PassSteps.{a_lane, begins, loaded, goes_on, all_passed, no_cut, one_cut, using_fewer, using_parts, using_unread, using_layouts}
 use Rattle.item_pass.proofs.passing.pass_lanes.Goals as goal
 
 pub loop-lanes-init : goal.loop-lanes-init
 loop-lanes-init g c = record {
-  layout = refl;
+  layouts = unused_layouts c.args.lanes.now.layout 0 c.args.lanes.now.all c.requires.unused;
   parts = refl;
   known = ([], c.requires.none);
-  passed = told_all _ (g.F.File.bytes c.args.file.now) (λ file. begins _ c.args.lanes.now.layout _ file c.args.lanes.now.all c.requires.fresh c.requires.none);
+  passed = told_all _ (g.F.File.bytes c.args.file.now) (λ file. begins _ _ file c.args.lanes.now.all (unused_fresh c.args.lanes.now.layout 0 c.args.lanes.now.all c.requires.unused) c.requires.none);
   reads = omega arith;
   unread = omega arith;
   keeps = record { bytes = refl; size = refl; later = omega arith };
@@ -37,12 +38,11 @@ loop-lanes-smaller g c =
     let before = c.loop-lanes.lanes.all in
     let lanes = c.make_ready.new.self.all in
     let v = c.loop-lanes.invariant in
-    let loads = subst (λ (x : Layout). LoadsLanes g.F.File x c.loop-lanes.file c.make_ready.new.file before lanes) v.layout c.make_ready.ensures.loads in
-    let there : c.make_ready.new.self.layout ≡ l = c.make_ready.ensures.layout ∙ v.layout in
+    let loads = c.make_ready.ensures.loads in
     let i = c.in-Item.i in
     let now = c.use_up.new.self.all in
-    let used = subst (λ (x : Layout). IsLaneUsedUp m x lanes i now) there c.use_up.ensures.used in
-    omega (arith, using_fewer m l lanes i now c.in-Item.ensures.holds.0 used, loads.most)
+    let used = c.use_up.ensures.used in
+    omega (arith, using_fewer m lanes i now c.in-Item.ensures.holds.0 used, loads.most)
 
 pub loop-lanes-preserved : goal.loop-lanes-preserved
 loop-lanes-preserved g c =
@@ -51,24 +51,22 @@ loop-lanes-preserved g c =
     let before = c.loop-lanes.lanes.all in
     let lanes = c.make_ready.new.self.all in
     let v = c.loop-lanes.invariant in
-    let loads = subst (λ (x : Layout). LoadsLanes g.F.File x c.loop-lanes.file c.make_ready.new.file before lanes) v.layout c.make_ready.ensures.loads in
-    let there : c.make_ready.new.self.layout ≡ l = c.make_ready.ensures.layout ∙ v.layout in
+    let loads = c.make_ready.ensures.loads in
     let i = c.in-Item.i in
     let now = c.use_up.new.self.all in
-    let used = subst (λ (x : Layout). IsLaneUsedUp m x lanes i now) there c.use_up.ensures.used in
+    let used = c.use_up.ensures.used in
     let lt = c.in-Item.ensures.holds.0 in
     let size = g.F.File.size c.args.file.now in
-    let ready = subst (λ (x : Layout). All (IsReady x) lanes) v.layout c.in_ok-make_ready.ensures.ready in
-    let next = subst (λ (x : Layout). (file : List ℕ) → All (Stands x file) lanes → IsNextLane x file lanes i) there c.in-Item.ensures.next in
-    let taken = subst (λ (x : Layout). (d : Lane) (xs : List Keyed) (k : Keyed) → first_of (keyed_held x (get_or lanes i d)) ≡ Some k
-    → g.G.Gatherer.holds c.args.gatherer.now xs c.loop-lanes.gathered → g.G.Gatherer.holds c.args.gatherer.now (and_item m xs k) c.take_head.new.gathered) there c.in-Ok.ensures.taken in
-    let reads = going_reads l size (g.F.File.size c.loop-lanes.file) before lanes now _ _ _ _ v.keeps.size (using_unread m l lanes i now lt used size) ready v.reads v.unread loads.reads loads.unread in
+    let ready = c.in_ok-make_ready.ensures.ready in
+    let next = c.in-Item.ensures.next in
+    let taken = c.in-Ok.ensures.taken in
+    let reads = going_reads size (g.F.File.size c.loop-lanes.file) before lanes now _ _ _ _ v.keeps.size (using_unread m lanes i now lt used size) ready v.reads v.unread loads.reads loads.unread in
     record {
-      layout = c.use_up.ensures.layout ∙ there;
-      parts = using_parts m l lanes i now lt used ∙ loads.parts ∙ v.parts;
+      layouts = using_layouts m lanes i now lt used l (loads.layouts l v.layouts);
+      parts = using_parts m lanes i now lt used ∙ loads.parts ∙ v.parts;
       known = c.in-Ok.ensures.known;
-      passed = told_map _ _ (g.F.File.bytes c.args.file.now) (λ file p. goes_on m l _ _ file c.args.lanes.now.all lanes i now lt used taken (next file p.stands) p)
-          (loaded m l _ (g.F.File.bytes c.args.file.now) (g.F.File.bytes c.loop-lanes.file) c.args.lanes.now.all before lanes v.keeps.bytes v.passed loads.rows loads.stands);
+      passed = told_map _ _ (g.F.File.bytes c.args.file.now) (λ file p. goes_on m _ _ file c.args.lanes.now.all lanes i now lt used taken (next file p.stands) p)
+          (loaded m _ (g.F.File.bytes c.args.file.now) (g.F.File.bytes c.loop-lanes.file) c.args.lanes.now.all before lanes v.keeps.bytes v.passed loads.rows loads.stands);
       reads = reads.0;
       unread = reads.1;
       keeps = record {
@@ -86,11 +84,10 @@ returns-in-Cut-clause-gathered g c =
     let before = c.loop-lanes.lanes.all in
     let lanes = c.make_ready.new.self.all in
     let v = c.loop-lanes.invariant in
-    let loads = subst (λ (x : Layout). LoadsLanes g.F.File x c.loop-lanes.file c.make_ready.new.file before lanes) v.layout c.make_ready.ensures.loads in
-    let there : c.make_ready.new.self.layout ≡ l = c.make_ready.ensures.layout ∙ v.layout in
-    let next = subst (λ (x : Layout). (file : List ℕ) → All (Stands x file) lanes → (to_come x file lanes ≡ []) × ((d : Lane) → least_cut (rows_of x file lanes) ≡ Some (cut_at lanes c.in-Cut.i d))) there c.in-Cut.ensures.next in
-    told_map _ _ (g.F.File.bytes c.args.file.now) (λ file p. all_passed m l _ file c.args.lanes.now.all lanes c.requires.fresh (next file p.stands).0 p)
-    (loaded m l _ (g.F.File.bytes c.args.file.now) (g.F.File.bytes c.loop-lanes.file) c.args.lanes.now.all before lanes v.keeps.bytes v.passed loads.rows loads.stands)
+    let loads = c.make_ready.ensures.loads in
+    let next = c.in-Cut.ensures.next in
+    told_map _ _ (g.F.File.bytes c.args.file.now) (λ file p. all_passed m _ l file c.args.lanes.now.all lanes (unused_layouts l 0 c.args.lanes.now.all c.requires.unused) (unused_fresh l 0 c.args.lanes.now.all c.requires.unused) (next file p.stands).0 p)
+    (loaded m _ (g.F.File.bytes c.args.file.now) (g.F.File.bytes c.loop-lanes.file) c.args.lanes.now.all before lanes v.keeps.bytes v.passed loads.rows loads.stands)
 
 pub returns-in-Cut-clause-cut : goal.returns-in-Cut-clause-cut
 returns-in-Cut-clause-cut g c =
@@ -99,13 +96,12 @@ returns-in-Cut-clause-cut g c =
     let before = c.loop-lanes.lanes.all in
     let lanes = c.make_ready.new.self.all in
     let v = c.loop-lanes.invariant in
-    let loads = subst (λ (x : Layout). LoadsLanes g.F.File x c.loop-lanes.file c.make_ready.new.file before lanes) v.layout c.make_ready.ensures.loads in
-    let there : c.make_ready.new.self.layout ≡ l = c.make_ready.ensures.layout ∙ v.layout in
-    let next = subst (λ (x : Layout). (file : List ℕ) → All (Stands x file) lanes → (to_come x file lanes ≡ []) × ((d : Lane) → least_cut (rows_of x file lanes) ≡ Some (cut_at lanes c.in-Cut.i d))) there c.in-Cut.ensures.next in
+    let loads = c.make_ready.ensures.loads in
+    let next = c.in-Cut.ensures.next in
     let d = a_lane lanes c.in-Cut.i c.in-Cut.ensures.holds in
     told_map _ _ (g.F.File.bytes c.args.file.now)
-    (λ file p. ap Some (c.place_before.ensures d) ∙ one_cut l file c.args.lanes.now.all lanes (cut_at lanes c.in-Cut.i d) (loads.parts ∙ v.parts) ((next file p.stands).1 d))
-    (loaded m l _ (g.F.File.bytes c.args.file.now) (g.F.File.bytes c.loop-lanes.file) c.args.lanes.now.all before lanes v.keeps.bytes v.passed loads.rows loads.stands)
+    (λ file p. ap Some (c.place_before.ensures d) ∙ one_cut l file c.args.lanes.now.all lanes (cut_at lanes c.in-Cut.i d) (loads.layouts l v.layouts) (loads.parts ∙ v.parts) ((next file p.stands).1 d))
+    (loaded m _ (g.F.File.bytes c.args.file.now) (g.F.File.bytes c.loop-lanes.file) c.args.lanes.now.all before lanes v.keeps.bytes v.passed loads.rows loads.stands)
 
 pub returns-in-Done-clause-gathered : goal.returns-in-Done-clause-gathered
 returns-in-Done-clause-gathered g c =
@@ -114,11 +110,10 @@ returns-in-Done-clause-gathered g c =
     let before = c.loop-lanes.lanes.all in
     let lanes = c.make_ready.new.self.all in
     let v = c.loop-lanes.invariant in
-    let loads = subst (λ (x : Layout). LoadsLanes g.F.File x c.loop-lanes.file c.make_ready.new.file before lanes) v.layout c.make_ready.ensures.loads in
-    let there : c.make_ready.new.self.layout ≡ l = c.make_ready.ensures.layout ∙ v.layout in
-    let next = subst (λ (x : Layout). (file : List ℕ) → All (Stands x file) lanes → (to_come x file lanes ≡ []) × (least_cut (rows_of x file lanes) ≡ None)) there c.in-Done.ensures.next in
-    told_map _ _ (g.F.File.bytes c.args.file.now) (λ file p. all_passed m l _ file c.args.lanes.now.all lanes c.requires.fresh (next file p.stands).0 p)
-    (loaded m l _ (g.F.File.bytes c.args.file.now) (g.F.File.bytes c.loop-lanes.file) c.args.lanes.now.all before lanes v.keeps.bytes v.passed loads.rows loads.stands)
+    let loads = c.make_ready.ensures.loads in
+    let next = c.in-Done.ensures.next in
+    told_map _ _ (g.F.File.bytes c.args.file.now) (λ file p. all_passed m _ l file c.args.lanes.now.all lanes (unused_layouts l 0 c.args.lanes.now.all c.requires.unused) (unused_fresh l 0 c.args.lanes.now.all c.requires.unused) (next file p.stands).0 p)
+    (loaded m _ (g.F.File.bytes c.args.file.now) (g.F.File.bytes c.loop-lanes.file) c.args.lanes.now.all before lanes v.keeps.bytes v.passed loads.rows loads.stands)
 
 pub returns-in-Done-clause-cut : goal.returns-in-Done-clause-cut
 returns-in-Done-clause-cut g c =
@@ -127,11 +122,10 @@ returns-in-Done-clause-cut g c =
     let before = c.loop-lanes.lanes.all in
     let lanes = c.make_ready.new.self.all in
     let v = c.loop-lanes.invariant in
-    let loads = subst (λ (x : Layout). LoadsLanes g.F.File x c.loop-lanes.file c.make_ready.new.file before lanes) v.layout c.make_ready.ensures.loads in
-    let there : c.make_ready.new.self.layout ≡ l = c.make_ready.ensures.layout ∙ v.layout in
-    let next = subst (λ (x : Layout). (file : List ℕ) → All (Stands x file) lanes → (to_come x file lanes ≡ []) × (least_cut (rows_of x file lanes) ≡ None)) there c.in-Done.ensures.next in
-    told_map _ _ (g.F.File.bytes c.args.file.now) (λ file p. no_cut l file c.args.lanes.now.all lanes (loads.parts ∙ v.parts) (next file p.stands).1)
-    (loaded m l _ (g.F.File.bytes c.args.file.now) (g.F.File.bytes c.loop-lanes.file) c.args.lanes.now.all before lanes v.keeps.bytes v.passed loads.rows loads.stands)
+    let loads = c.make_ready.ensures.loads in
+    let next = c.in-Done.ensures.next in
+    told_map _ _ (g.F.File.bytes c.args.file.now) (λ file p. no_cut l file c.args.lanes.now.all lanes (loads.layouts l v.layouts) (loads.parts ∙ v.parts) (next file p.stands).1)
+    (loaded m _ (g.F.File.bytes c.args.file.now) (g.F.File.bytes c.loop-lanes.file) c.args.lanes.now.all before lanes v.keeps.bytes v.passed loads.rows loads.stands)
 
 pub returns-in_err-make_ready-clause-reads : goal.returns-in_err-make_ready-clause-reads
 returns-in_err-make_ready-clause-reads g c =
@@ -139,8 +133,8 @@ returns-in_err-make_ready-clause-reads g c =
     let before = c.loop-lanes.lanes.all in
     let lanes = c.make_ready.new.self.all in
     let v = c.loop-lanes.invariant in
-    let loads = subst (λ (x : Layout). LoadsLanes g.F.File x c.loop-lanes.file c.make_ready.new.file before lanes) v.layout c.make_ready.ensures.loads in
-    reads_inside l (g.F.File.size c.args.file.now) (g.F.File.size c.loop-lanes.file) c.args.lanes.now.all before lanes _ _ _ (omega (arith, (carried l).page_least))
+    let loads = c.make_ready.ensures.loads in
+    reads_inside (g.F.File.size c.args.file.now) (g.F.File.size c.loop-lanes.file) c.args.lanes.now.all before lanes _ _ _
     v.keeps.size v.reads v.unread loads.reads loads.unread
 
 pub returns-in-Err-clause-reads : goal.returns-in-Err-clause-reads
@@ -149,8 +143,8 @@ returns-in-Err-clause-reads g c =
     let before = c.loop-lanes.lanes.all in
     let lanes = c.make_ready.new.self.all in
     let v = c.loop-lanes.invariant in
-    let loads = subst (λ (x : Layout). LoadsLanes g.F.File x c.loop-lanes.file c.make_ready.new.file before lanes) v.layout c.make_ready.ensures.loads in
-    reads_inside l (g.F.File.size c.args.file.now) (g.F.File.size c.loop-lanes.file) c.args.lanes.now.all before lanes _ _ _ (omega (arith, (carried l).page_least))
+    let loads = c.make_ready.ensures.loads in
+    reads_inside (g.F.File.size c.args.file.now) (g.F.File.size c.loop-lanes.file) c.args.lanes.now.all before lanes _ _ _
     v.keeps.size v.reads v.unread loads.reads loads.unread
 
 pub returns-in-Cut-clause-reads : goal.returns-in-Cut-clause-reads
@@ -159,8 +153,8 @@ returns-in-Cut-clause-reads g c =
     let before = c.loop-lanes.lanes.all in
     let lanes = c.make_ready.new.self.all in
     let v = c.loop-lanes.invariant in
-    let loads = subst (λ (x : Layout). LoadsLanes g.F.File x c.loop-lanes.file c.make_ready.new.file before lanes) v.layout c.make_ready.ensures.loads in
-    reads_inside l (g.F.File.size c.args.file.now) (g.F.File.size c.loop-lanes.file) c.args.lanes.now.all before lanes _ _ _ (omega (arith, (carried l).page_least))
+    let loads = c.make_ready.ensures.loads in
+    reads_inside (g.F.File.size c.args.file.now) (g.F.File.size c.loop-lanes.file) c.args.lanes.now.all before lanes _ _ _
     v.keeps.size v.reads v.unread loads.reads loads.unread
 
 pub returns-in-Done-clause-reads : goal.returns-in-Done-clause-reads
@@ -169,6 +163,6 @@ returns-in-Done-clause-reads g c =
     let before = c.loop-lanes.lanes.all in
     let lanes = c.make_ready.new.self.all in
     let v = c.loop-lanes.invariant in
-    let loads = subst (λ (x : Layout). LoadsLanes g.F.File x c.loop-lanes.file c.make_ready.new.file before lanes) v.layout c.make_ready.ensures.loads in
-    reads_inside l (g.F.File.size c.args.file.now) (g.F.File.size c.loop-lanes.file) c.args.lanes.now.all before lanes _ _ _ (omega (arith, (carried l).page_least))
+    let loads = c.make_ready.ensures.loads in
+    reads_inside (g.F.File.size c.args.file.now) (g.F.File.size c.loop-lanes.file) c.args.lanes.now.all before lanes _ _ _
     v.keeps.size v.reads v.unread loads.reads loads.unread

@@ -29,7 +29,7 @@ pub returns-in-None-clause-turned : goal.returns-in-None-clause-turned
 returns-in-None-clause-turned g c = λ told.
     let f = seen g.F.File g.L.LineFormat.text in
     let now = c.make_sources_ready.new.sources in
-    underway_first (map f c.args.sources.now) (map f now) c.make_sources_ready.new.nexts (g.O.Sink.written c.args.out.now) (g.O.Sink.written c.put_heads.new.out) c.args.pending.now c.put_heads.new.pending c.requires.fresh told c.requires.empty
+    underway_first (map f c.args.sources.now) (map f now) c.make_sources_ready.new.nexts (g.O.Sink.written c.args.out.now) (g.O.Sink.written c.put_heads.new.out) c.args.pending.now c.put_heads.new.pending c.know_layouts.ensures c.requires.fresh told c.requires.empty
     (as_long f now c.args.sources.now c.make_sources_ready.ensures.count) c.make_sources_ready.ensures.keeps c.in-None.ensures.keys
     (λ b text held. subst (λ (t : List ℕ). Holds b (g.O.Sink.written c.put_heads.new.out) c.put_heads.new.pending (text ++ t)) (heads_text f c.args.sources.now) (c.in-Ok.ensures.puts b text held))
 
@@ -44,7 +44,7 @@ returns-in-Some-clause-turned g c = λ told.
     let f = seen g.F.File g.L.LineFormat.text in
     let now = c.make_sources_ready.new.sources in
     read_first (map f c.args.sources.now) (map f now) (g.O.Sink.written c.args.out.now) (g.O.Sink.written c.put_heads.new.out) (g.O.Sink.written c.end_with.new.out) c.args.pending.now c.put_heads.new.pending c.in-Some.j c.end_with.result
-    c.requires.fresh told c.requires.empty (as_long f now c.args.sources.now c.make_sources_ready.ensures.count) c.make_sources_ready.ensures.keeps
+    c.know_layouts.ensures c.requires.fresh told c.requires.empty (as_long f now c.args.sources.now c.make_sources_ready.ensures.count) c.make_sources_ready.ensures.keeps
     (λ b text held. subst (λ (t : List ℕ). Holds b (g.O.Sink.written c.put_heads.new.out) c.put_heads.new.pending (text ++ t)) (heads_text f c.args.sources.now) (c.in-Ok.ensures.puts b text held))
     c.end_with.ensures.ended
 

@@ -17,7 +17,7 @@ loop-i-preserved c =
     let first : IsFirstMark work.moved.items c.loop-i.from i = subst (λ (marks : List Bool). IsFirstMark marks c.loop-i.from i) c.as_slice.ensures.value c.in-Some.ensures in
     let lane = c.index-lanes-i.result in
     let mark = c.wants_load.result in
-    let unmarked : IsReady c.args.layout.now lane → mark ≡ false = λ ready. elim (cases_Bool mark) [
+    let unmarked : IsReady lane → mark ≡ false = λ ready. elim (cases_Bool mark) [
       | inl wanted ↦ absurd (c.wants_load.ensures.never wanted ready)
       | inr none ↦ none
     ] in
@@ -28,9 +28,9 @@ loop-i-preserved c =
         highs = ap length c.set-in-Some.ensures ∙ length-set work.highs i c.high_of.result ∙ so_far.slots.highs;
         marks = length-set work.moved.items i mark ∙ so_far.slots.marks;
       };
-      ready = ready_more (IsReady c.args.layout.now) work.moved.items lanes i lane mark first.inside (λ none. subst (IsReady c.args.layout.now) c.index-lanes-i.is (c.wants_load.ensures.ready none)) so_far.ready;
-      unmarked = unmarked_more (IsReady c.args.layout.now) work.moved.items lanes i lane mark first.inside (λ ready. unmarked (subst (IsReady c.args.layout.now) (sym c.index-lanes-i.is) ready))
-          (unmarked_along (IsReady c.args.layout.now) work.moved.items lanes c.loop-i.from i first.behind first.none so_far.unmarked);
+      ready = ready_more IsReady work.moved.items lanes i lane mark first.inside (λ none. subst IsReady c.index-lanes-i.is (c.wants_load.ensures.ready none)) so_far.ready;
+      unmarked = unmarked_more IsReady work.moved.items lanes i lane mark first.inside (λ ready. unmarked (subst IsReady (sym c.index-lanes-i.is) ready))
+          (unmarked_along IsReady work.moved.items lanes c.loop-i.from i first.behind first.none so_far.unmarked);
       heads = tells_more head_kept work.moved.items work.heads lanes i (tells_along head_kept work.moved.items work.heads lanes c.loop-i.from i first.behind first.none so_far.heads)
           lane mark c.head_kept.result c.set.new.self (omega (arith, first.inside, so_far.slots.heads, so_far.slots.marks)) (c.head_kept.ensures ∙ ap head_kept c.index-lanes-i.is) c.set.ensures;
       highs = tells_more high_of work.moved.items work.highs lanes i (tells_along high_of work.moved.items work.highs lanes c.loop-i.from i first.behind first.none so_far.highs)

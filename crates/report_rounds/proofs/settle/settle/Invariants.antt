@@ -11,8 +11,8 @@ abbrev pub invariant-loop-i : goal.invariant-loop-i
 invariant-loop-i l = record {
   within : l.from ≤ length l.work.moved.items;
   slots : HasSlots l.lanes l.work;
-  ready : AllUnmoved (IsReady l.layout) l.work.moved.items l.lanes;
-  unmarked : ReadyUnmarked (IsReady l.layout) l.work.moved.items l.lanes l.from;
+  ready : AllUnmoved IsReady l.work.moved.items l.lanes;
+  unmarked : ReadyUnmarked IsReady l.work.moved.items l.lanes l.from;
   heads : TellsSoFar head_kept l.work.moved.items l.work.heads l.lanes l.from;
   highs : TellsSoFar high_of l.work.moved.items l.work.highs l.lanes l.from;
   pending : l.work.pending ≡ l.fn.work.pending;

@@ -16,10 +16,9 @@ use Rattle.report_rounds.proofs.turns.turn.Goals as goal
 
 pub print_round-requires-clause-rising : goal.print_round-requires-clause-rising
 print_round-requires-clause-rising g c =
-    let f : IsFormed (g.L.LineFormat.text c.args.form.now) c.args.layout.now (g.F.File.bytes c.args.file.now) c.args.lanes.now c.make_moved_ready.new.lanes c.format_lanes.new.lanes = record {
+    let f : IsFormed (g.L.LineFormat.text c.args.form.now) (g.F.File.bytes c.args.file.now) c.args.lanes.now c.make_moved_ready.new.lanes c.format_lanes.new.lanes = record {
       long_loaded = c.make_moved_ready.auto.lanes;
       long_formed = c.format_lanes.ensures.count;
-      in_order = c.in-Ok.ensures.makes_ready.loads.in_order;
       load = c.in-Ok.ensures.makes_ready.each;
       ready = c.in-Ok.ensures.makes_ready.ready;
       format = c.format_lanes.ensures.each;
@@ -28,10 +27,9 @@ print_round-requires-clause-rising g c =
 
 pub returns-in-Ok-print_round-clause-between : goal.returns-in-Ok-print_round-clause-between
 returns-in-Ok-print_round-clause-between g c = λ goes.
-    let f : IsFormed (g.L.LineFormat.text c.args.form.now) c.args.layout.now (g.F.File.bytes c.args.file.now) c.args.lanes.now c.make_moved_ready.new.lanes c.format_lanes.new.lanes = record {
+    let f : IsFormed (g.L.LineFormat.text c.args.form.now) (g.F.File.bytes c.args.file.now) c.args.lanes.now c.make_moved_ready.new.lanes c.format_lanes.new.lanes = record {
       long_loaded = c.make_moved_ready.auto.lanes;
       long_formed = c.format_lanes.ensures.count;
-      in_order = c.in-Ok.ensures.makes_ready.loads.in_order;
       load = c.in-Ok.ensures.makes_ready.each;
       ready = c.in-Ok.ensures.makes_ready.ready;
       format = c.format_lanes.ensures.each;
@@ -58,17 +56,16 @@ returns-in-Ok-print_round-clause-between g c = λ goes.
 
 pub returns-in-Ok-print_round-clause-goes_on : goal.returns-in-Ok-print_round-clause-goes_on
 returns-in-Ok-print_round-clause-goes_on g c = λ goes.
-    let f : IsFormed (g.L.LineFormat.text c.args.form.now) c.args.layout.now (g.F.File.bytes c.args.file.now) c.args.lanes.now c.make_moved_ready.new.lanes c.format_lanes.new.lanes = record {
+    let f : IsFormed (g.L.LineFormat.text c.args.form.now) (g.F.File.bytes c.args.file.now) c.args.lanes.now c.make_moved_ready.new.lanes c.format_lanes.new.lanes = record {
       long_loaded = c.make_moved_ready.auto.lanes;
       long_formed = c.format_lanes.ensures.count;
-      in_order = c.in-Ok.ensures.makes_ready.loads.in_order;
       load = c.in-Ok.ensures.makes_ready.each;
       ready = c.in-Ok.ensures.makes_ready.ready;
       format = c.format_lanes.ensures.each;
     } in
     let follow = follows c.format_lanes.new.lanes c.print_round.new.lanes c.horizon-known.result c.horizon-known.ensures c.least-least.result
     (subst (λ (keys : List SlotKey). IsLeastAt keys c.least-least.result) c.settle.ensures.highs c.least-least.ensures.least) c.outcome_at.result c.outcome_at.ensures in
-    let all : ℕ = all_unread c.args.layout.now (g.F.File.size c.args.file.now) c.args.lanes.now in
+    let all : ℕ = all_unread (g.F.File.size c.args.file.now) c.args.lanes.now in
     let still = unread_turned c.args.layout.now (g.F.File.size c.args.file.now) (g.L.LineFormat.text c.args.form.now) c.horizon-known.result c.make_moved_ready.new.lanes c.format_lanes.new.lanes c.print_round.new.lanes
     c.format_lanes.ensures.count c.print_round.auto.lanes c.format_lanes.ensures.each c.in-Ok-print_round.ensures.round.printed.lanes in
     record {
@@ -80,10 +77,9 @@ returns-in-Ok-print_round-clause-goes_on g c = λ goes.
 
 pub returns-in-Ok-print_round-clause-turned : goal.returns-in-Ok-print_round-clause-turned
 returns-in-Ok-print_round-clause-turned g c =
-    let f : IsFormed (g.L.LineFormat.text c.args.form.now) c.args.layout.now (g.F.File.bytes c.args.file.now) c.args.lanes.now c.make_moved_ready.new.lanes c.format_lanes.new.lanes = record {
+    let f : IsFormed (g.L.LineFormat.text c.args.form.now) (g.F.File.bytes c.args.file.now) c.args.lanes.now c.make_moved_ready.new.lanes c.format_lanes.new.lanes = record {
       long_loaded = c.make_moved_ready.auto.lanes;
       long_formed = c.format_lanes.ensures.count;
-      in_order = c.in-Ok.ensures.makes_ready.loads.in_order;
       load = c.in-Ok.ensures.makes_ready.each;
       ready = c.in-Ok.ensures.makes_ready.ready;
       format = c.format_lanes.ensures.each;
@@ -110,10 +106,9 @@ returns-in-Ok-print_round-clause-write g c = λ end.
 
 pub returns-in-Err-clause-turned : goal.returns-in-Err-clause-turned
 returns-in-Err-clause-turned g c =
-    let f : IsFormed (g.L.LineFormat.text c.args.form.now) c.args.layout.now (g.F.File.bytes c.args.file.now) c.args.lanes.now c.make_moved_ready.new.lanes c.format_lanes.new.lanes = record {
+    let f : IsFormed (g.L.LineFormat.text c.args.form.now) (g.F.File.bytes c.args.file.now) c.args.lanes.now c.make_moved_ready.new.lanes c.format_lanes.new.lanes = record {
       long_loaded = c.make_moved_ready.auto.lanes;
       long_formed = c.format_lanes.ensures.count;
-      in_order = c.in-Ok.ensures.makes_ready.loads.in_order;
       load = c.in-Ok.ensures.makes_ready.each;
       ready = c.in-Ok.ensures.makes_ready.ready;
       format = c.format_lanes.ensures.each;

@@ -61,9 +61,9 @@ fn entries<R: Threads + Sync>(
     }
     let layout = layout();
     let mut file = file_of(alloc, pages)?;
-    let mut pool = Pool::new(alloc, 6, 4096, 16)?;
+    let mut pool = Pool::new(alloc, &layout, 6, 16)?;
     let lanes = pool.lanes();
-    open_lanes(&layout, &mut file, lanes, 16);
+    open_lanes(&mut file, lanes);
     let gate = Meeting {
         wanted,
         turns,
@@ -77,8 +77,8 @@ fn entries<R: Threads + Sync>(
         shared_from,
         gate: &gate,
     };
-    format_lanes(&workers, &Letters, &layout, lanes, &[true; 6]);
-    format_lanes(&workers, &Letters, &layout, lanes, again);
+    format_lanes(&workers, &Letters, layout.page, lanes, &[true; 6]);
+    format_lanes(&workers, &Letters, layout.page, lanes, again);
     Ok((gate.entries.load(SeqCst), gate.met.load(SeqCst) == 1))
 }
 

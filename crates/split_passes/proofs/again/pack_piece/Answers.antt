@@ -1,5 +1,6 @@
-use Rattle.std.proofs.Common.{refl, arith, ◌∙◌, ◌≡◌, ◌<◌, []}
+use Rattle.std.proofs.Common.{refl, sym, ap, arith, ◌∙◌, ◌≡◌, ◌<◌, []}
 use Rattle.std.proofs.lemmas.Result.{err_from_is_err_and}
+use Rattle.trace_base.specs.declared.layout.Layout.{Layout}
 use Rattle.trace_base.proofs.Layouts.{carried}
 use Rattle.trace_outside.specs.Causes.{Rose}
 use Rattle.trace_outside.proofs.Gains.{gained_nothing}
@@ -12,14 +13,14 @@ use Rattle.split_passes.proofs.again.pack_piece.Goals as goal
 
 pub returns-then-count-eq0-clause-told : goal.returns-then-count-eq0-clause-told
 returns-then-count-eq0-clause-told g c =
-    told_all _ (g.F.File.bytes c.args.file.now) (λ file s xs f. nothing_again c.args.layout.now file c.args.lane.now c.args.front.now c.args.count xs _ c.if-count-eq0.true f s)
+    told_all _ (g.F.File.bytes c.args.file.now) (λ file s xs f. nothing_again file c.args.lane.now c.args.front.now c.args.count xs _ c.if-count-eq0.true f s)
 
 pub returns-in_err-seek_to-clause-told : goal.returns-in_err-seek_to-clause-told
 returns-in_err-seek_to-clause-told g c =
     let many : c.args.count ≡ 0 → ⊥ = c.if-count-eq0.false in
     let some : 0 < c.args.count = omega (arith, many) in
     let p = err_from_is_err_and c.from_residual.result c.from_residual.ensures.1 in
-    rw (p.1, p.2) (told_map _ _ (g.F.File.bytes c.args.file.now) (λ file there s xs f. not_reached c.args.layout.now file xs c.args.lane.now c.seek_to.new.lane (g.O.Sink.written c.args.out.now) (g.O.Sink.written c.args.out.now) c.args.lane.now.part c.args.front.now c.seek_to.new.lane _ (f.place some).has (there s)) c.in_err-seek_to.ensures.told)
+    rw (p.1, p.2) (told_map _ _ (g.F.File.bytes c.args.file.now) (λ file there s xs f. not_reached c.args.lane.now.layout file xs c.args.lane.now c.seek_to.new.lane (g.O.Sink.written c.args.out.now) (g.O.Sink.written c.args.out.now) c.args.lane.now.part c.args.front.now c.seek_to.new.lane _ (f.place some).has (there s)) c.in_err-seek_to.ensures.told)
 
 pub returns-in_err-pack_items-clause-told : goal.returns-in_err-pack_items-clause-told
 returns-in_err-pack_items-clause-told g c =
@@ -28,8 +29,8 @@ returns-in_err-pack_items-clause-told g c =
     let p = err_from_is_err_and c.from_residual-in_err-pack_items.result c.from_residual-in_err-pack_items.ensures.1 in
     rw (p.1, p.2) (told_again _ _ _ (g.F.File.bytes c.args.file.now) (g.F.File.bytes c.seek_to.new.file) c.seek_to.ensures.keeps.bytes (λ file there packed s xs f.
     let again = (there s).1 (f.place some) in
-    not_packed c.args.layout.now file xs c.args.lane.now c.pack_items.new.lane (g.O.Sink.written c.args.out.now) (g.O.Sink.written c.pack_items.new.out) c.args.count c.args.lane.now.cursor.next c.seek_to.new.lane c.pack_items.new.lane _
-    (enough c.args.layout.now file c.args.lane.now c.seek_to.new.lane c.args.front.now c.args.count xs some f c.seek_to.ensures.part.part again) (packed again.stands))
+    not_packed c.args.lane.now.layout file xs c.args.lane.now c.pack_items.new.lane (g.O.Sink.written c.args.out.now) (g.O.Sink.written c.pack_items.new.out) c.args.count c.args.lane.now.cursor.next c.seek_to.new.lane c.pack_items.new.lane _
+    (enough file c.args.lane.now c.seek_to.new.lane c.args.front.now c.args.count xs some f c.seek_to.ensures.part.layout c.seek_to.ensures.part.part again) (packed again.stands))
     c.in_ok-seek_to.ensures.told c.in_err-pack_items.ensures.told)
 
 pub returns-in_err-go_back-clause-told : goal.returns-in_err-go_back-clause-told
@@ -41,7 +42,7 @@ returns-in_err-go_back-clause-told g c =
     rw (p.1, p.2) (told_twice _ _ _ _ (g.F.File.bytes c.args.file.now) (g.F.File.bytes c.seek_to.new.file) (g.F.File.bytes c.pack_items.new.file) c.seek_to.ensures.keeps.bytes (c.pack_items.ensures.goes.keeps.bytes ∙ c.seek_to.ensures.keeps.bytes) (λ file there packed back s xs f.
     let there = (there s).1 (f.place some) in
     let packed = packed there.stands in
-    not_back c.args.layout.now file xs c.args.lane.now c.go_back.new.lane (g.O.Sink.written c.args.out.now) (g.O.Sink.written c.pack_items.new.out) _ (back packed.stands c.args.lane.now refl keeps c.requires.in_order s))
+    not_back c.args.lane.now.layout file xs c.args.lane.now c.go_back.new.lane (g.O.Sink.written c.args.out.now) (g.O.Sink.written c.pack_items.new.out) _ (back packed.stands c.args.lane.now refl keeps s))
     c.in_ok-seek_to.ensures.told c.in_ok-pack_items.ensures.told c.in_err-go_back.ensures.told)
 
 pub returns-in_err-seek_to-clause-causes : goal.returns-in_err-seek_to-clause-causes
@@ -66,17 +67,16 @@ returns-clause-told g c =
     let many : c.args.count ≡ 0 → ⊥ = c.if-count-eq0.false in
     let some : 0 < c.args.count = omega (arith, many) in
     let keeps = lane_kept c.seek_to.ensures.part c.pack_items.ensures.goes.part in
-    let l = c.args.layout.now in
     told_twice _ _ _ _ (g.F.File.bytes c.args.file.now) (g.F.File.bytes c.seek_to.new.file) (g.F.File.bytes c.pack_items.new.file) c.seek_to.ensures.keeps.bytes (c.pack_items.ensures.goes.keeps.bytes ∙ c.seek_to.ensures.keeps.bytes) (λ file there packed back s xs f.
     let there = (there s).1 (f.place some) in
     let p = packed there.stands in
-    (back p.stands c.args.lane.now refl keeps c.requires.in_order s, same_items l file c.args.lane.now c.seek_to.new.lane c.pack_items.new.lane c.args.front.now c.args.count xs _ _ some f c.seek_to.ensures.part.part there p))
+    (back p.stands c.args.lane.now refl keeps s, same_items file c.args.lane.now c.seek_to.new.lane c.pack_items.new.lane c.args.front.now c.args.count xs _ _ some f c.seek_to.ensures.part.layout c.seek_to.ensures.part.part there p))
     c.in_ok-seek_to.ensures.told c.in_ok-pack_items.ensures.told c.in_ok-go_back.ensures.told
 
 pub returns-then-front-back-clause-told : goal.returns-then-front-back-clause-told
 returns-then-front-back-clause-told g c =
     let many : c.args.count ≡ 0 → ⊥ = c.if-count-eq0.false in
-    told_all _ (g.F.File.bytes c.args.file.now) (λ file s xs f. front_reached c.args.layout.now file c.args.lane.now c.args.front.now c.args.count xs (omega (arith, (carried c.args.layout.now).page_least)) (omega (arith, many)) f s c.if-front-back.true)
+    told_all _ (g.F.File.bytes c.args.file.now) (λ file s xs f. front_reached file c.args.lane.now c.args.front.now c.args.count xs (omega (arith, (carried c.args.lane.now.layout).page_least)) (omega (arith, many)) f s c.if-front-back.true)
 
 pub pack_items-requires-clause-held : goal.pack_items-requires-clause-held
 pack_items-requires-clause-held g c = c.in_ok-seek_to.ensures.holds.state
@@ -85,41 +85,53 @@ pub pack_items-requires-clause-within : goal.pack_items-requires-clause-within
 pack_items-requires-clause-within g c = let next = c.in_ok-seek_to.ensures.holds.next in omega (arith, next, c.if-front-back.false)
 
 pub returns-clause-numbers : goal.returns-clause-numbers
-returns-clause-numbers g c = c.in_ok-go_back.ensures.numbers (λ held. (c.requires.in_order.held held).next)
+returns-clause-numbers g c = c.in_ok-go_back.ensures.numbers (λ held. (c.args.lane.now.in_order.held held).next)
 
 pub returns-clause-reads : goal.returns-clause-reads
 returns-clause-reads g c =
-    let some : 0 < c.args.layout.now.page = omega (arith, (carried c.args.layout.now).page_least) in
+    let some : 0 < c.args.lane.now.layout.page = omega (arith, (carried c.args.lane.now.layout).page_least) in
     let at = c.in_ok-seek_to.ensures.holds.next in
     let stays = c.in_ok-pack_items.ensures.came.stays in
-    way_back c.args.layout.now (g.F.File.size c.args.file.now) c.args.lane.now c.args.front.now c.args.count _ _ c.requires.in_order some c.if-count-eq0.false c.if-front-back.false c.seek_to.ensures.reads c.seek_to.ensures.held
-    c.pack_items.new.lane (g.F.File.size c.pack_items.new.file) _ _ (c.pack_items.ensures.goes.keeps.size ∙ c.seek_to.ensures.keeps.size) (c.pack_items.ensures.goes.part.part ∙ c.seek_to.ensures.part.part) c.pack_items.ensures.goes.in_order stays.held
+    way_back (g.F.File.size c.args.file.now) c.args.lane.now c.args.front.now c.args.count _ _ some c.if-count-eq0.false c.if-front-back.false c.seek_to.ensures.reads c.seek_to.ensures.held
+    c.pack_items.new.lane (g.F.File.size c.pack_items.new.file) _ _ (c.pack_items.ensures.goes.keeps.size ∙ c.seek_to.ensures.keeps.size) (c.pack_items.ensures.goes.part.layout ∙ c.seek_to.ensures.part.layout) (c.pack_items.ensures.goes.part.part ∙ c.seek_to.ensures.part.part) stays.held
     (omega (arith, at, stays.forward)) stays.within
-    (from_there c.args.layout.now (g.F.File.size c.args.file.now) (g.F.File.size c.seek_to.new.file) c.args.lane.now.part c.args.front.now.page c.seek_to.new.lane _ _ _ c.seek_to.ensures.keeps.size c.seek_to.ensures.part.part at c.in_ok-pack_items.ensures.came.reads)
+    (from_there c.args.lane.now.layout (g.F.File.size c.args.file.now) (g.F.File.size c.seek_to.new.file) c.args.lane.now.part c.args.front.now.page c.seek_to.new.lane _ _ _ c.seek_to.ensures.keeps.size c.seek_to.ensures.part.layout c.seek_to.ensures.part.part at c.in_ok-pack_items.ensures.came.reads)
     c.go_back.ensures.reads c.go_back.ensures.held c.go_back.ensures.other
 
 pub returns-in_err-go_back-clause-reads : goal.returns-in_err-go_back-clause-reads
 returns-in_err-go_back-clause-reads g c =
-    let some : 0 < c.args.layout.now.page = omega (arith, (carried c.args.layout.now).page_least) in
+    let some : 0 < c.args.lane.now.layout.page = omega (arith, (carried c.args.lane.now.layout).page_least) in
     let at = c.in_ok-seek_to.ensures.holds.next in
     let stays = c.in_ok-pack_items.ensures.came.stays in
-    way_back c.args.layout.now (g.F.File.size c.args.file.now) c.args.lane.now c.args.front.now c.args.count _ _ c.requires.in_order some c.if-count-eq0.false c.if-front-back.false c.seek_to.ensures.reads c.seek_to.ensures.held
-    c.pack_items.new.lane (g.F.File.size c.pack_items.new.file) _ _ (c.pack_items.ensures.goes.keeps.size ∙ c.seek_to.ensures.keeps.size) (c.pack_items.ensures.goes.part.part ∙ c.seek_to.ensures.part.part) c.pack_items.ensures.goes.in_order stays.held
+    way_back (g.F.File.size c.args.file.now) c.args.lane.now c.args.front.now c.args.count _ _ some c.if-count-eq0.false c.if-front-back.false c.seek_to.ensures.reads c.seek_to.ensures.held
+    c.pack_items.new.lane (g.F.File.size c.pack_items.new.file) _ _ (c.pack_items.ensures.goes.keeps.size ∙ c.seek_to.ensures.keeps.size) (c.pack_items.ensures.goes.part.layout ∙ c.seek_to.ensures.part.layout) (c.pack_items.ensures.goes.part.part ∙ c.seek_to.ensures.part.part) stays.held
     (omega (arith, at, stays.forward)) stays.within
-    (from_there c.args.layout.now (g.F.File.size c.args.file.now) (g.F.File.size c.seek_to.new.file) c.args.lane.now.part c.args.front.now.page c.seek_to.new.lane _ _ _ c.seek_to.ensures.keeps.size c.seek_to.ensures.part.part at c.in_ok-pack_items.ensures.came.reads)
+    (from_there c.args.lane.now.layout (g.F.File.size c.args.file.now) (g.F.File.size c.seek_to.new.file) c.args.lane.now.part c.args.front.now.page c.seek_to.new.lane _ _ _ c.seek_to.ensures.keeps.size c.seek_to.ensures.part.layout c.seek_to.ensures.part.part at c.in_ok-pack_items.ensures.came.reads)
     c.go_back.ensures.reads c.go_back.ensures.held c.go_back.ensures.other
 
 pub returns-in_err-seek_to-clause-reads : goal.returns-in_err-seek_to-clause-reads
 returns-in_err-seek_to-clause-reads g c =
-    no_front c.args.layout.now (g.F.File.size c.args.file.now) c.args.lane.now c.args.front.now c.args.count _ _ c.requires.in_order (omega (arith, (carried c.args.layout.now).page_least))
+    no_front (g.F.File.size c.args.file.now) c.args.lane.now c.args.front.now c.args.count _ _ (omega (arith, (carried c.args.lane.now.layout).page_least))
     c.if-count-eq0.false c.if-front-back.false c.seek_to.ensures.reads c.seek_to.ensures.held
 
 pub returns-in_err-pack_items-clause-reads : goal.returns-in_err-pack_items-clause-reads
 returns-in_err-pack_items-clause-reads g c =
     let at = c.in_ok-seek_to.ensures.holds.next in
-    no_way_back c.args.layout.now (g.F.File.size c.args.file.now) c.args.lane.now c.args.front.now c.args.count _ _ c.requires.in_order (omega (arith, (carried c.args.layout.now).page_least))
+    no_way_back (g.F.File.size c.args.file.now) c.args.lane.now c.args.front.now c.args.count _ _ (omega (arith, (carried c.args.lane.now.layout).page_least))
     c.if-count-eq0.false c.if-front-back.false c.seek_to.ensures.reads c.seek_to.ensures.held _
-    (from_there c.args.layout.now (g.F.File.size c.args.file.now) (g.F.File.size c.seek_to.new.file) c.args.lane.now.part c.args.front.now.page c.seek_to.new.lane _ _ _ c.seek_to.ensures.keeps.size c.seek_to.ensures.part.part at c.pack_items.ensures.goes.reads)
+    (from_there c.args.lane.now.layout (g.F.File.size c.args.file.now) (g.F.File.size c.seek_to.new.file) c.args.lane.now.part c.args.front.now.page c.seek_to.new.lane _ _ _ c.seek_to.ensures.keeps.size c.seek_to.ensures.part.layout c.seek_to.ensures.part.part at c.pack_items.ensures.goes.reads)
 
 pub returns-then-count-eq0-clause-gains : goal.returns-then-count-eq0-clause-gains
 returns-then-count-eq0-clause-gains g c = ([], gained_nothing (g.O.Sink.written c.args.out.now))
+
+pub pack_items-requires-clause-whole : goal.pack_items-requires-clause-whole
+pack_items-requires-clause-whole g c = c.requires.whole ∙ ap (λ (k : Layout). k.page) (sym c.seek_to.ensures.part.layout)
+
+pub returns-in_err-pack_items-clause-whole : goal.returns-in_err-pack_items-clause-whole
+returns-in_err-pack_items-clause-whole g c = c.pack_items.ensures.whole ∙ ap (λ (k : Layout). k.page) c.seek_to.ensures.part.layout
+
+pub returns-in_err-go_back-clause-whole : goal.returns-in_err-go_back-clause-whole
+returns-in_err-go_back-clause-whole g c = c.pack_items.ensures.whole ∙ ap (λ (k : Layout). k.page) c.seek_to.ensures.part.layout
+
+pub returns-clause-whole : goal.returns-clause-whole
+returns-clause-whole g c = c.pack_items.ensures.whole ∙ ap (λ (k : Layout). k.page) c.seek_to.ensures.part.layout

@@ -8,7 +8,7 @@ use Rattle.split_passes.proofs.horizon.horizon.Given as goal
 abbrev pub invariant-loop-i : goal.invariant-loop-i
 invariant-loop-i l = record {
   up_to : l.least.until ≤ l.until;
-  first : (d : Lane) → ReachesPast l.layout l.least.until l.most (get_or l.lanes l.first d);
-  before : (j : ℕ) (d : Lane) → j < l.i → ReachesPast l.layout l.least.until l.most (get_or l.lanes j d);
-  run : (d : Lane) → IfSome l.least.run (HasRun l.layout (get_or l.lanes l.least.lane d));
+  first : (d : Lane) → ReachesPast l.least.until l.most (get_or l.lanes l.first d);
+  before : (j : ℕ) (d : Lane) → j < l.i → ReachesPast l.least.until l.most (get_or l.lanes j d);
+  run : (d : Lane) → IfSome l.least.run (HasRun (get_or l.lanes l.least.lane d));
 }

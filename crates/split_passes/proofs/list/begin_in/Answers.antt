@@ -13,7 +13,7 @@ use Rattle.split_passes.proofs.list.begin_in.Goals as goal
 pub returns-in_err-make_all_ready-clause-loads : goal.returns-in_err-make_all_ready-clause-loads
 returns-in_err-make_all_ready-clause-loads g c =
     let loads = c.make_all_ready.ensures.loads in
-    lent (LoadsLanes g.F.File c.args.layout.now c.args.file.now c.make_all_ready.new.file) c.args.pool.now c.lanes.result.now c.make_all_ready.new.lanes c.lanes.ensures.value loads.parts loads
+    lent (LoadsLanes g.F.File c.args.file.now c.make_all_ready.new.file) c.args.pool.now c.lanes.result.now c.make_all_ready.new.lanes c.lanes.ensures.value loads.parts loads
 
 pub returns-in_err-make_all_ready-clause-fronts_long : goal.returns-in_err-make_all_ready-clause-fronts_long
 returns-in_err-make_all_ready-clause-fronts_long g c =
@@ -36,11 +36,11 @@ note_fronts-requires g c =
 pub returns-clause-loads : goal.returns-clause-loads
 returns-clause-loads g c =
     let loads = c.make_all_ready.ensures.loads in
-    lent (LoadsLanes g.F.File c.args.layout.now c.args.file.now c.make_all_ready.new.file) c.args.pool.now c.lanes.result.now c.make_all_ready.new.lanes c.lanes.ensures.value loads.parts loads
+    lent (LoadsLanes g.F.File c.args.file.now c.make_all_ready.new.file) c.args.pool.now c.lanes.result.now c.make_all_ready.new.lanes c.lanes.ensures.value loads.parts loads
 
 pub returns-clause-ready : goal.returns-clause-ready
 returns-clause-ready g c =
-    lent (λ (a b : List Lane). All (IsReady c.args.layout.now) b) c.args.pool.now c.lanes.result.now c.make_all_ready.new.lanes c.lanes.ensures.value c.make_all_ready.ensures.loads.parts c.in_ok-make_all_ready.ensures.ready
+    lent (λ (a b : List Lane). All IsReady b) c.args.pool.now c.lanes.result.now c.make_all_ready.new.lanes c.lanes.ensures.value c.make_all_ready.ensures.loads.parts c.in_ok-make_all_ready.ensures.ready
 
 pub returns-clause-noted : goal.returns-clause-noted
 returns-clause-noted g c =
@@ -63,8 +63,8 @@ returns-clause-fronts_long g c =
 pub returns-clause-none : goal.returns-clause-none
 returns-clause-none g c =
     let room : length c.clear.new.tallies ≡ c.args.tallies.now.len = c.clear.ensures.long ∙ c.as_mut_slice-2.ensures.len in
-    subst (λ (ts : List Tally). All (λ (t : Tally). IsTally c.args.layout.now t []) ts) (sym (take_at c.clear.new.tallies _ c.args.tallies.now.len room))
-    (λ i t lt. c.clear.ensures.none c.args.layout.now i t (omega (arith, lt, c.clear.ensures.long)))
+    λ layout. subst (λ (ts : List Tally). All (λ (t : Tally). IsTally layout t []) ts) (sym (take_at c.clear.new.tallies _ c.args.tallies.now.len room))
+    (λ i t lt. c.clear.ensures.none layout i t (omega (arith, lt, c.clear.ensures.long)))
 
 pub returns-clause-tallies_long : goal.returns-clause-tallies_long
 returns-clause-tallies_long g c =

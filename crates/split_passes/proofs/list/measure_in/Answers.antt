@@ -19,7 +19,7 @@ measure-requires-clause-long g c = ap length c.as_mut_slice.ensures.value ∙ c.
 
 pub returns-clause-through : goal.returns-clause-through
 returns-clause-through g c =
-    lent (GoThrough g.F.File c.args.layout.now c.args.file.now c.measure.new.file) c.args.pool.now c.lanes.result.now c.measure.new.lanes c.lanes.ensures.value c.measure.ensures.through.parts c.measure.ensures.through
+    lent (GoThrough g.F.File c.args.file.now c.measure.new.file) c.args.pool.now c.lanes.result.now c.measure.new.lanes c.lanes.ensures.value c.measure.ensures.through.parts c.measure.ensures.through
 
 pub returns-clause-long : goal.returns-clause-long
 returns-clause-long g c =
@@ -31,19 +31,18 @@ returns-clause-long g c =
 
 pub returns-clause-measured : goal.returns-clause-measured
 returns-clause-measured g c =
-    let l = c.args.layout.now in
     let lanes : length c.measure.new.lanes ≡ length c.args.pool.now = same_length c.measure.new.lanes c.lanes.result.now c.measure.ensures.through.parts ∙ ap length c.lanes.ensures.value in
     let room : length c.args.tallies.now.items ≡ c.args.tallies.now.len = ap length (sym c.as_mut_slice.ensures.value) ∙ c.as_mut_slice.ensures.len in
     let long : length c.measure.new.tallies ≡ c.args.tallies.now.len = c.measure.ensures.long ∙ lanes ∙ sym c.requires.long ∙ room in
-    let Goal : List Lane → List Lane → List Tally → List Tally → Type 0 = λ a b before now. IfOk c.measure.result (λ end. IfSome (g.F.File.bytes c.args.file.now) (λ file. All (Stands l file) a → Tallied l a [] before
-    → IsMeasured l file c.args.stop (record { gauge = c.args.gauge.now; lanes = a }) (record { gauge = c.measure.new.gauge; lanes = b }) now end)) in
+    let Goal : List Lane → List Lane → List Tally → List Tally → Type 0 = λ a b before now. IfOk c.measure.result (λ end. IfSome (g.F.File.bytes c.args.file.now) (λ file. All (Stands file) a → Tallied a [] before
+    → IsMeasured file c.args.stop (record { gauge = c.args.gauge.now; lanes = a }) (record { gauge = c.measure.new.gauge; lanes = b }) now end)) in
     subst (λ (ts : List Tally). Goal c.args.pool.now (written c.args.pool.now c.measure.new.lanes) c.args.tallies.now.items ts) (sym (take_at c.measure.new.tallies _ c.args.tallies.now.len long))
     (lent (λ (a b : List Lane). Goal a b c.args.tallies.now.items c.measure.new.tallies) c.args.pool.now c.lanes.result.now c.measure.new.lanes c.lanes.ensures.value c.measure.ensures.through.parts
     (subst (λ (ts : List Tally). Goal c.lanes.result.now c.measure.new.lanes ts c.measure.new.tallies) c.as_mut_slice.ensures.value c.measure.ensures.measured))
 
 pub returns-clause-ready : goal.returns-clause-ready
 returns-clause-ready g c =
-    lent (λ (a b : List Lane). OnOk c.measure.result (All (IsReady c.args.layout.now) b)) c.args.pool.now c.lanes.result.now c.measure.new.lanes c.lanes.ensures.value c.measure.ensures.through.parts c.measure.ensures.ready
+    lent (λ (a b : List Lane). OnOk c.measure.result (All IsReady b)) c.args.pool.now c.lanes.result.now c.measure.new.lanes c.lanes.ensures.value c.measure.ensures.through.parts c.measure.ensures.ready
 
 pub returns-clause-over : goal.returns-clause-over
 returns-clause-over g c =

@@ -2,7 +2,7 @@ use Rattle.split_passes.proofs.LaneRounds.{comes_by, comes_not}
 use Rattle.split_passes.proofs.rounds.comes_by.Goals as goal
 
 pub returns-in-None : goal.returns-in-None
-returns-in-None c = λ l in_order. comes_not l c.args.until c.args.lane.now (c.in-None.ensures l in_order)
+returns-in-None c = comes_not c.args.until c.args.lane.now c.in-None.ensures
 
 pub returns-in-Some : goal.returns-in-Some
-returns-in-Some c = λ l in_order. comes_by l c.args.until c.args.lane.now c.in-Some.key (c.in-Some.ensures l in_order)
+returns-in-Some c = comes_by c.args.until c.args.lane.now c.in-Some.key c.in-Some.ensures

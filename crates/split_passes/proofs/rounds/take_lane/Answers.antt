@@ -4,9 +4,8 @@ use Rattle.split_passes.proofs.rounds.take_lane.Goals as goal
 
 pub loop-run-init : goal.loop-run-init
 loop-run-init c = record {
-  in_order = c.requires.in_order;
   run = c.requires.found;
-  taken = ([], few_none c.args.layout.now c.args.until c.args.lane.now c.args.tally.now);
+  taken = ([], few_none c.args.until c.args.lane.now c.args.tally.now);
 }
 
 pub loop-run-preserved : goal.loop-run-preserved
@@ -14,20 +13,20 @@ loop-run-preserved c =
     let before = c.loop-run.invariant.taken in
     let more = c.take_some.ensures.taken in
     record {
-      in_order = c.take_some.ensures.in_order;
       run = tt;
-      taken = (before.0 ++ more.0, few_twice c.args.layout.now c.args.until c.args.lane.now c.loop-run.lane c.take_some.new.lane c.args.tally.now c.loop-run.tally c.take_some.new.tally before.0 more.0 before.1 more.1.1);
+      taken = (before.0 ++ more.0, few_twice c.args.until c.args.lane.now c.loop-run.lane c.take_some.new.lane c.args.tally.now c.loop-run.tally c.take_some.new.tally before.0 more.0 before.1 more.1.1);
     }
 
-pub returns-clause-taken : goal.returns-clause-taken
-returns-clause-taken c = λ most reach.
-    let l = c.args.layout.now in
-    let a = c.args.lane.now in
-    let taken = c.loop-run.invariant.taken in
-    let at : c.loop-run.lane.cursor.at ≡ a.cursor.at + length taken.0 = used_at l taken.0 a c.loop-run.lane taken.1.used in (
-      taken.0,
-      (
-        lane_taken l c.args.until most a c.loop-run.lane c.args.tally.now c.loop-run.tally taken.0 taken.1 (c.loop-run-test.ensures l c.loop-run.invariant.in_order) reach,
-        omega (arith, at, c.from.ensures),
-      ),
-    )
+pub returns : goal.returns
+returns c = record {
+  taken = λ most reach.
+      let a = c.args.lane.now in
+      let taken = c.loop-run.invariant.taken in
+      let at : c.loop-run.lane.cursor.at ≡ a.cursor.at + length taken.0 = used_at taken.0 a c.loop-run.lane taken.1.used in (
+        taken.0,
+        (
+          lane_taken c.args.until most a c.loop-run.lane c.args.tally.now c.loop-run.tally taken.0 taken.1 c.loop-run-test.ensures reach,
+          omega (arith, at, c.from.ensures),
+        ),
+      );
+}

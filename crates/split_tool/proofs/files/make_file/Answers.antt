@@ -23,7 +23,7 @@ returns-in-Ok-finish_file-clause-told g c =
     (g.D.Folder.files c.args.folder.now) (g.D.Folder.files c.create_file.new.self) (g.D.Folder.files c.finish_file.new.self)
     (g.D.Out.Sink.written c.in-Ok-create_file.out) (g.D.Out.Sink.written c.write_file.new.out) c.in-Ok.ends
     c.in-Ok-create_file.ensures.files (c.write_file.ensures.keeps_out.name ∙ c.in-Ok-create_file.ensures.named ∙ c.as_str.ensures.value ∙ c.put_name.ensures) c.in-Ok-create_file.ensures.empty c.in-Ok-finish_file.ensures.stored
-    p (w p.left.stands (taken_of header.layout file c.args.plan.now.rules (lanes_of c.args.lists.now)) p.fronts_are))
+    p (w p.left.stands (taken_of file c.args.plan.now.rules (lanes_of c.args.lists.now)) p.fronts_are))
     c.in-Ok.ensures.told c.in-Ok-write_file.ensures.told
 
 pub returns-in-Err-finish_file-clause-told : goal.returns-in-Err-finish_file-clause-told
@@ -64,12 +64,12 @@ returns-in_default-create_file-clause-reads g c = omega (arith, c.in-Ok.ensures.
 
 pub returns-in-Ok-finish_file-clause-reads : goal.returns-in-Ok-finish_file-clause-reads
 returns-in-Ok-finish_file-clause-reads g c =
-    written_spent c.args.plan.now.header.now.layout (g.F.File.size c.args.file.now) (g.F.File.size c.measure_file.new.file) (lanes_of c.args.lists.now) c.measure_file.new.lists _ _ _
+    written_spent (g.F.File.size c.args.file.now) (g.F.File.size c.measure_file.new.file) (lanes_of c.args.lists.now) c.measure_file.new.lists _ _ _
     c.measure_file.ensures.keeps.size c.in-Ok.ensures.reads c.write_file.ensures.reads (lanes_of c.write_file.new.lists) c.in-Ok-write_file.ensures.left
 
 pub returns-in-Err-finish_file-clause-reads : goal.returns-in-Err-finish_file-clause-reads
 returns-in-Err-finish_file-clause-reads g c =
-    written_stops c.args.plan.now.header.now.layout (g.F.File.size c.args.file.now) (g.F.File.size c.measure_file.new.file) (lanes_of c.args.lists.now) c.measure_file.new.lists _ _ _
+    written_stops (g.F.File.size c.args.file.now) (g.F.File.size c.measure_file.new.file) (lanes_of c.args.lists.now) c.measure_file.new.lists _ _ _
     c.measure_file.ensures.keeps.size c.in-Ok.ensures.reads c.write_file.ensures.reads
 
 -- THE FILE IS CUT OFF
@@ -80,10 +80,10 @@ returns-in-Err-clause-told g c =
     let work = c.measure_file.new.work in
     told_again _ _ _ (g.F.File.bytes c.args.file.now) (g.F.File.bytes c.measure_file.new.file) c.measure_file.ensures.keeps.bytes (λ file m w s small.
     let p = m s small in
-    stopped_by (record { header = header; rules = c.args.plan.now.rules; name = file_name c.args.plan.now.base.now c.args.number }) header file work.table.items (owns (lanes_of c.measure_file.new.lists) (taken_of header.layout file c.args.plan.now.rules (lanes_of c.args.lists.now)))
+    stopped_by (record { header = header; rules = c.args.plan.now.rules; name = file_name c.args.plan.now.base.now c.args.number }) header file work.table.items (owns (lanes_of c.measure_file.new.lists) (taken_of file c.args.plan.now.rules (lanes_of c.args.lists.now)))
     (record { lanes = lanes_of c.measure_file.new.lists; written = g.D.Out.Sink.written c.in-Ok-create_file.out }) (record { lanes = lanes_of c.write_file.new.lists; written = g.D.Out.Sink.written c.write_file.new.out })
     (record { lanes = lanes_of c.args.lists.now; files = g.D.Folder.files c.args.folder.now }) (record { lanes = lanes_of c.write_file.new.lists; files = g.D.Folder.files c.drop_file.new.self }) c.write_file.result c.in-Err.unmade c.in-Err.is
-    (w p.left.stands (taken_of header.layout file c.args.plan.now.rules (lanes_of c.args.lists.now)) p.fronts_are))
+    (w p.left.stands (taken_of file c.args.plan.now.rules (lanes_of c.args.lists.now)) p.fronts_are))
     c.in-Ok.ensures.told c.write_file.ensures.told
 
 pub returns-in-Err-clause-leaves : goal.returns-in-Err-clause-leaves
@@ -122,5 +122,5 @@ returns-in-Err-clause-counts g c =
 
 pub returns-in-Err-clause-reads : goal.returns-in-Err-clause-reads
 returns-in-Err-clause-reads g c =
-    written_stops c.args.plan.now.header.now.layout (g.F.File.size c.args.file.now) (g.F.File.size c.measure_file.new.file) (lanes_of c.args.lists.now) c.measure_file.new.lists _ _ _
+    written_stops (g.F.File.size c.args.file.now) (g.F.File.size c.measure_file.new.file) (lanes_of c.args.lists.now) c.measure_file.new.lists _ _ _
     c.measure_file.ensures.keeps.size c.in-Ok.ensures.reads c.write_file.ensures.reads

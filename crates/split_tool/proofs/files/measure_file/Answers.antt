@@ -1,10 +1,9 @@
-use Rattle.std.proofs.Common.{◌≡◌, ◌<◌, length, arith, ap, ◌∙◌}
+use Rattle.std.proofs.Common.{◌≡◌, length, arith, ap, ◌∙◌}
 use Rattle.std.proofs.lemmas.List.{take_at}
 use Rattle.std.proofs.lemmas.Result.{err_from_is_err_and}
-use Rattle.trace_base.proofs.Layouts.{carried}
 use Rattle.split_tool.specs.Lists.{lanes_of}
 use Rattle.split_tool.proofs.Budget.{all_done, loaded_out, loaded_stops, measured_spent}
-use Rattle.split_tool.proofs.Flat.{goes_kept, parts_flat}
+use Rattle.split_tool.proofs.Flat.{goes_kept, own_layouts, parts_flat}
 use Rattle.split_tool.proofs.Making.{still_cut, still_lists}
 use Rattle.split_tool.proofs.Preparing.{prepared_told, prepared_back}
 use Rattle.split_tool.proofs.files.measure_file.Goals as goal
@@ -87,34 +86,28 @@ returns-clause-told g c =
     let lists = still_lists rules header ready now go2.long (goes_kept ready now go2.each) (still_lists rules header first ready go.long (goes_kept first ready go.each) c.requires.are) in
     prepared_back header rules first now c.fill_table.new.table _ c.in_ok-ends.ends (g.F.File.bytes c.args.file.now) (take_at c.fill_table.new.table _ work.table.len table_long)
     (prepared_told header rules first ready now c.as_mut_slice.result.now c.fill_table.new.table work.at c.in_ok-ends.ends (g.F.File.bytes c.args.file.now) (g.F.File.bytes c.begin_lists.new.file) go.keeps.bytes
-    c.requires.allowed lists go.long go2.long go.each go2.each c.in_ok-begin_lists.ensures.begun c.in_ok-ends.ensures.done c.requires.lent.at (ap length c.as_mut_slice.ensures.value ∙ c.requires.lent.table)
+    c.requires.allowed (own_layouts header.layout first c.requires.are.layouts c.know_layouts.ensures) lists go.long go2.long go.each go2.each c.in_ok-begin_lists.ensures.begun c.in_ok-ends.ensures.done c.requires.lent.at (ap length c.as_mut_slice.ensures.value ∙ c.requires.lent.table)
     c.fill_table.ensures c.in_ok-begin_lists.ensures.told c.in_ok-ends.ensures.told)
 
 pub returns-clause-reads : goal.returns-clause-reads
 returns-clause-reads g c =
-    let l = c.args.plan.now.header.now.layout in
     let size = g.F.File.size c.args.file.now in
-    let some : 0 < l.page = omega (arith, (carried l).page_least) in
     let go = c.begin_lists.ensures.go in
     let go2 = c.measure_lists.ensures.go in
-    measured_spent l size some (g.F.File.size c.begin_lists.new.file) c.args.lists.now c.begin_lists.new.lists c.measure_lists.new.lists _ _ _ go.keeps.size go.long go2.long go.each go2.each
+    measured_spent size (g.F.File.size c.begin_lists.new.file) c.args.lists.now c.begin_lists.new.lists c.measure_lists.new.lists _ _ _ go.keeps.size go.long go2.long go.each go2.each
     c.in_ok-begin_lists.ensures.begun c.in_ok-ends.ensures.done c.in_ok-begin_lists.ensures.reads_done go.unread c.in_ok-ends.ensures.reads_done go2.unread
 
 pub returns-in_err-ends-clause-reads : goal.returns-in_err-ends-clause-reads
 returns-in_err-ends-clause-reads g c =
-    let l = c.args.plan.now.header.now.layout in
-    let some : 0 < l.page = omega (arith, (carried l).page_least) in
     let go = c.begin_lists.ensures.go in
     let go2 = c.measure_lists.ensures.go in
     let p = err_from_is_err_and c.from_residual-in_err-ends.result c.from_residual-in_err-ends.ensures.1 in
-    rw p.1 (loaded_out l (g.F.File.size c.args.file.now) some (g.F.File.size c.begin_lists.new.file) (lanes_of c.args.lists.now) (lanes_of c.begin_lists.new.lists) _ _ _
+    rw p.1 (loaded_out (g.F.File.size c.args.file.now) (g.F.File.size c.begin_lists.new.file) (lanes_of c.args.lists.now) (lanes_of c.begin_lists.new.lists) _ _ _
     go.keeps.size c.in_ok-begin_lists.ensures.reads_done go.unread
-    (all_done l (g.F.File.size c.begin_lists.new.file) (lanes_of c.measure_lists.new.lists) _ _ _ some go2.unread go2.reads))
+    (all_done (g.F.File.size c.begin_lists.new.file) (lanes_of c.measure_lists.new.lists) _ _ _ go2.unread go2.reads))
 
 pub returns-in_err-begin_lists-clause-reads : goal.returns-in_err-begin_lists-clause-reads
 returns-in_err-begin_lists-clause-reads g c =
-    let l = c.args.plan.now.header.now.layout in
-    let some : 0 < l.page = omega (arith, (carried l).page_least) in
     let go = c.begin_lists.ensures.go in
     let p = err_from_is_err_and c.from_residual.result c.from_residual.ensures.1 in
-    rw p.1 (loaded_stops l (g.F.File.size c.args.file.now) some (lanes_of c.args.lists.now) (lanes_of c.begin_lists.new.lists) _ _ go.reads go.unread)
+    rw p.1 (loaded_stops (g.F.File.size c.args.file.now) (lanes_of c.args.lists.now) (lanes_of c.begin_lists.new.lists) _ _ go.reads go.unread)

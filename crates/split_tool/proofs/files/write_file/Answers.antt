@@ -31,7 +31,7 @@ returns-clause-told g c =
 pub returns-clause-left : goal.returns-clause-left
 returns-clause-left g c =
     done_by _ c.pack_lists.result c.made_by.result c.made_by.ensures
-    (λ done. same_to_read c.args.plan.now.header.now.layout (g.F.File.size c.args.file.now) (lanes_of c.args.lists.now) (lanes_of c.pack_lists.new.lists) (c.pack_lists.ensures.numbers done))
+    (λ done. same_to_read (g.F.File.size c.args.file.now) (lanes_of c.args.lists.now) (lanes_of c.pack_lists.new.lists) (c.pack_lists.ensures.numbers done))
 
 pub returns-clause-gains : goal.returns-clause-gains
 returns-clause-gains g c =

@@ -8,8 +8,8 @@ use Rattle.split_tool.proofs.lists.begin_lists.Given as goal
 
 abbrev pub invariant-loop-i : goal.invariant-loop-i
 invariant-loop-i g l = record {
-  gone : GoneTo g.F.File l.plan.header.now.layout l.i l.fn.file l.file l.fn.lists l.lists;
-  stays : IfSome (g.F.File.bytes l.fn.file) (λ file. (j : ℕ) (d : ListSeen) → j < l.i → StaysOn l.plan.header.now.layout file (get_or l.fn.lists j d) (get_or l.lists j d));
-  begun : (j : ℕ) (d : ListSeen) → j < l.i → ListBegun l.plan.header.now.layout (get_or l.lists j d);
+  gone : GoneTo g.F.File l.i l.fn.file l.file l.fn.lists l.lists;
+  stays : IfSome (g.F.File.bytes l.fn.file) (λ file. (j : ℕ) (d : ListSeen) → j < l.i → StaysOn file (get_or l.fn.lists j d) (get_or l.lists j d));
+  begun : (j : ℕ) (d : ListSeen) → j < l.i → ListBegun (get_or l.lists j d);
   faults : g.F.File.faults l.file ≡ g.F.File.faults l.fn.file;
 }

@@ -11,9 +11,9 @@ use Rattle.split_tool.proofs.lists.measure_lists.Given as goal
 
 abbrev pub invariant-loop-i : goal.invariant-loop-i
 invariant-loop-i g l = record {
-  gone : GoneTo g.F.File l.plan.header.now.layout l.i l.fn.file l.file l.fn.lists l.lists;
-  measured : IfSome (g.F.File.bytes l.fn.file) (λ file. All (Stands l.plan.header.now.layout file) (lanes_of l.fn.lists) → All (ListBegun l.plan.header.now.layout) l.fn.lists
-      → MeasuredTo l.plan.header.now.layout file l.plan.rules l.i l.fn.lists l.lists l.ends);
-  done : (j : ℕ) (d : ListSeen) → j < l.i → ListDone l.plan.header.now.layout (get_or l.fn.lists j d) (get_or l.lists j d);
+  gone : GoneTo g.F.File l.i l.fn.file l.file l.fn.lists l.lists;
+  measured : IfSome (g.F.File.bytes l.fn.file) (λ file. All (Stands file) (lanes_of l.fn.lists) → All ListBegun l.fn.lists
+      → MeasuredTo file l.plan.rules l.i l.fn.lists l.lists l.ends);
+  done : (j : ℕ) (d : ListSeen) → j < l.i → ListDone (get_or l.fn.lists j d) (get_or l.lists j d);
   faults : g.F.File.faults l.file ≡ g.F.File.faults l.fn.file;
 }

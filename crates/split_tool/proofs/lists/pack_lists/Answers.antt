@@ -37,7 +37,7 @@ returns-clause-numbers g c =
 
 pub returns-clause-reads : goal.returns-clause-reads
 returns-clause-reads g c =
-    packing_all c.args.plan.now.header.now.layout (g.F.File.size c.args.file.now) c.loop-i.i c.args.lists.now _ _ c.loop-i.invariant.reads
+    packing_all (g.F.File.size c.args.file.now) c.loop-i.i c.args.lists.now _ _ c.loop-i.invariant.reads
 
 pub loop-i-preserved : goal.loop-i-preserved
 loop-i-preserved g c =
@@ -56,12 +56,12 @@ loop-i-preserved g c =
       whole = c.pack.ensures.whole ∙ ap (λ (k : Layout). k.page) layout;
       packed = told_again _ _ _ (g.F.File.bytes c.args.file.now) (g.F.File.bytes c.loop-i.file) v.keeps.bytes (λ file p one stands taken fronts.
           packed_more l x.layout file i c.args.lists.now c.loop-i.lists d new taken _ _ _ lt v.long v.others layout
-          (one (stands_there l file i c.args.lists.now c.loop-i.lists d lt v.long v.others layout stands) _ (fronts_there l file i c.args.lists.now c.loop-i.lists d taken lt v.long v.others layout fronts))
+          (one (stands_there file i c.args.lists.now c.loop-i.lists d lt v.long v.others stands) _ (fronts_there file i c.args.lists.now c.loop-i.lists d taken lt v.long v.others fronts))
           (p stands taken fronts))
           v.packed c.in-Done.ensures.told;
       gains = gains_more _ _ _ v.gains (c.in-Done.ensures.gains refl);
       numbers = first_more SameNumbers i c.args.lists.now c.loop-i.lists d new lt v.others (c.in-Done.ensures.numbers refl) v.numbers;
-      reads = packing_more l x.layout (g.F.File.size c.args.file.now) (g.F.File.size c.loop-i.file) i c.args.lists.now c.loop-i.lists d _ _ _ lt v.long v.others layout v.keeps.size v.reads c.pack.ensures.reads;
+      reads = packing_more (g.F.File.size c.args.file.now) (g.F.File.size c.loop-i.file) i c.args.lists.now c.loop-i.lists d _ _ _ lt v.long v.others v.keeps.size v.reads c.pack.ensures.reads;
       keeps_out = sink_kept v.keeps_out c.pack.ensures.keeps_out;
       keeps = file_kept v.keeps c.pack.ensures.keeps;
     }
@@ -106,7 +106,7 @@ returns-in_default-clause-told g c =
     let layout = layout_at l i c.args.lists.now c.loop-i.lists d v.long v.others c.requires.lists.layouts lt in
     told_again _ _ _ (g.F.File.bytes c.args.file.now) (g.F.File.bytes c.loop-i.file) v.keeps.bytes (λ file p one stands taken fronts.
     stopped_told l x.layout file _ _ _ _ _ _ c.pack.result c.in_default.not-Done
-    (one (stands_there l file i c.args.lists.now c.loop-i.lists d lt v.long v.others layout stands) _ (fronts_there l file i c.args.lists.now c.loop-i.lists d taken lt v.long v.others layout fronts)))
+    (one (stands_there file i c.args.lists.now c.loop-i.lists d lt v.long v.others stands) _ (fronts_there file i c.args.lists.now c.loop-i.lists d taken lt v.long v.others fronts)))
     v.packed c.pack.ensures.told
 
 pub returns-in_default-clause-malformed : goal.returns-in_default-clause-malformed
@@ -131,8 +131,8 @@ returns-in_default-clause-reads g c =
     let v = c.loop-i.invariant in
     let lt : i < length c.loop-i.lists = search rules in
     let layout = layout_at l i c.args.lists.now c.loop-i.lists d v.long v.others c.requires.lists.layouts lt in
-    packing_all l (g.F.File.size c.args.file.now) (i + 1) c.args.lists.now _ _
-    (packing_more l x.layout (g.F.File.size c.args.file.now) (g.F.File.size c.loop-i.file) i c.args.lists.now c.loop-i.lists d _ _ _ lt v.long v.others layout v.keeps.size v.reads c.pack.ensures.reads)
+    packing_all (g.F.File.size c.args.file.now) (i + 1) c.args.lists.now _ _
+    (packing_more (g.F.File.size c.args.file.now) (g.F.File.size c.loop-i.file) i c.args.lists.now c.loop-i.lists d _ _ _ lt v.long v.others v.keeps.size v.reads c.pack.ensures.reads)
 
 pub returns-in_default-clause-gains : goal.returns-in_default-clause-gains
 returns-in_default-clause-gains g c = λ done. absurd (c.in_default.not-Done done)

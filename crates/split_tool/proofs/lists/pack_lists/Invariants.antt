@@ -20,12 +20,12 @@ invariant-loop-i g l = record {
   kept : (j : ℕ) (d : ListSeen) → KeepsList (get_or l.fn.lists j d) (get_or l.lists j d);
   others : (j : ℕ) (d : ListSeen) → l.i ≤ j → get_or l.lists j d ≡ get_or l.fn.lists j d;
   whole : length l.page ≡ l.plan.header.now.layout.page;
-  packed : IfSome (g.F.File.bytes l.fn.file) (λ file. All (Stands l.plan.header.now.layout file) (lanes_of l.fn.lists)
-      → (taken : List Keyed) → AreFrontsOf l.plan.header.now.layout file l.fn.lists taken
+  packed : IfSome (g.F.File.bytes l.fn.file) (λ file. All (Stands file) (lanes_of l.fn.lists)
+      → (taken : List Keyed) → AreFrontsOf file l.fn.lists taken
       → ListsPackedTo l.plan.header.now.layout file l.i l.fn.lists l.lists taken (g.O.Sink.written l.fn.out) (g.O.Sink.written l.out));
   gains : GainsSome (g.O.Sink.written l.fn.out) (g.O.Sink.written l.out);
   numbers : (j : ℕ) (d : ListSeen) → j < l.i → SameNumbers (get_or l.fn.lists j d) (get_or l.lists j d);
-  reads : g.F.File.reads l.file ≤ raised (g.F.File.reads l.fn.file) (lists_packing l.plan.header.now.layout (g.F.File.size l.fn.file) (take l.i l.fn.lists));
+  reads : g.F.File.reads l.file ≤ raised (g.F.File.reads l.fn.file) (lists_packing (g.F.File.size l.fn.file) (take l.i l.fn.lists));
   keeps_out : KeepsSink g.O.Sink l.fn.out l.out;
   keeps : KeepsFile g.F.File l.fn.file l.file;
 }

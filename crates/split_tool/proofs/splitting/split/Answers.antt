@@ -1,11 +1,10 @@
 use Rattle.std.proofs.Common.{◌<◌, ◌+◌, ◌-◌, ◌^◌, inl, refl, arith, sym, subst, ◌∙◌}
 use Rattle.trace_outside.specs.Seen.{folder_seen}
 use Rattle.trace_outside.proofs.Keeping.{file_kept}
-use Rattle.trace_base.proofs.Layouts.{carried}
 use Rattle.event_cursor.proofs.Told.{told_all, told_both, told_map, told_again}
 use Rattle.split_pieces.specs.Cuts.{bad_reached, file_items}
 use Rattle.split_tool.specs.Lists.{lanes_of}
-use Rattle.split_tool.proofs.Flat.{goes_kept, parts_flat}
+use Rattle.split_tool.proofs.Flat.{go_layouts, goes_kept, own_layouts, parts_flat}
 use Rattle.split_tool.specs.Names.{file_name}
 use Rattle.new_files.specs.Requested.{names_of}
 use Rattle.split_tool.specs.NewFiles.{LeavesUnfinished, new_files}
@@ -33,14 +32,15 @@ loop-number-init g c =
     let now = c.pass_start.new.lists in
     let go = c.pass_start.ensures.go in
     let parts = parts_flat first now go.long go.each in
+    let layouts = own_layouts header.layout first c.requires.lists.layouts c.know_layouts.ensures in
     record {
       cut = record { allowed = c.requires.allowed; are = still_lists rules header first now go.long (goes_kept first now go.each) c.requires.lists; lent = c.requires.work };
       parts = parts;
       progress = told_both _ _ _ (g.F.File.bytes c.args.file.now) (λ file long started.
-          progress_none header c.args.plan.now.base.now rules file (lanes_of first) (lanes_of now) (g.D.Folder.files c.args.folder.now) c.requires.allowed c.requires.lists.rise c.requires.lists.cpus
-          c.requires.fresh parts (omega (arith, long, size)) (started (fresh_stand header.layout file (lanes_of first) c.requires.fresh)))
+          progress_none header c.args.plan.now.base.now rules file (lanes_of first) (lanes_of now) (g.D.Folder.files c.args.folder.now) c.requires.allowed layouts (go_layouts header.layout first now go.long go.each layouts) c.requires.lists.rise c.requires.lists.cpus
+          c.requires.fresh parts (omega (arith, long, size)) (started (fresh_stand file (lanes_of first) c.requires.fresh)))
           (g.met.F.File.size_is c.args.file.now) c.in-Ok.ensures.told;
-      spent = passed_spent header.layout (g.F.File.size c.args.file.now) (omega (arith, (carried header.layout).page_least)) first now _ _ go.long go.each c.in-Ok.ensures.reads_done go.unread;
+      spent = passed_spent (g.F.File.size c.args.file.now) first now _ _ go.long go.each c.in-Ok.ensures.reads_done go.unread;
       keeps = go.keeps;
       counts = record { reading = omega arith; writing = omega arith; unfinished = omega arith; misses = refl; opened = refl; closed = refl; bytes = refl };
       unfinished = refl;
@@ -82,7 +82,7 @@ loop-number-preserved g c =
           (m p.stands p.small) p)
           c.loop-number.invariant.progress c.in-Ok-make_file.ensures.told;
       spent = spent_more _ _ _ _ _ _ c.loop-number.invariant.spent
-          (same_spent header.layout (g.F.File.size c.args.file.now) (g.F.File.size c.loop-number.file) (lanes_of c.loop-number.lists) (lanes_of c.make_file.new.lists) _ _ c.loop-number.invariant.keeps.size c.in-Ok-make_file.ensures.reads);
+          (same_spent (g.F.File.size c.args.file.now) (g.F.File.size c.loop-number.file) (lanes_of c.loop-number.lists) (lanes_of c.make_file.new.lists) _ _ c.loop-number.invariant.keeps.size c.in-Ok-make_file.ensures.reads);
       keeps = file_kept c.loop-number.invariant.keeps c.make_file.ensures.keeps;
       counts = kept_twice _ _ _ c.loop-number.invariant.counts c.make_file.ensures.counts.keeps;
       unfinished = c.in-Ok-make_file.ensures.counts.unfinished ∙ c.loop-number.invariant.unfinished;
@@ -177,26 +177,26 @@ returns-then-not-goes_on-clause-counts g c = kept_twice _ _ _ c.loop-number.inva
 pub returns-in_default-clause-reads : goal.returns-in_default-clause-reads
 returns-in_default-clause-reads g c =
     let header = c.args.plan.now.header.now in
-    start_less header.layout (g.F.File.size c.args.file.now) (omega (arith, (carried header.layout).page_least)) (lanes_of c.args.lists.now) _ _ c.requires.fresh
-    (loaded_stops header.layout (g.F.File.size c.args.file.now) (omega (arith, (carried header.layout).page_least)) (lanes_of c.args.lists.now) (lanes_of c.pass_start.new.lists) _ _ c.pass_start.ensures.go.reads c.pass_start.ensures.go.unread)
+    start_less (g.F.File.size c.args.file.now) (lanes_of c.args.lists.now) _ _ c.requires.fresh
+    (loaded_stops (g.F.File.size c.args.file.now) (lanes_of c.args.lists.now) (lanes_of c.pass_start.new.lists) _ _ c.pass_start.ensures.go.reads c.pass_start.ensures.go.unread)
 
 pub returns-then-not-goes_on-clause-reads : goal.returns-then-not-goes_on-clause-reads
 returns-then-not-goes_on-clause-reads g c =
     let header = c.args.plan.now.header.now in
-    start_less header.layout (g.F.File.size c.args.file.now) (omega (arith, (carried header.layout).page_least)) (lanes_of c.args.lists.now) _ _ c.requires.fresh
+    start_less (g.F.File.size c.args.file.now) (lanes_of c.args.lists.now) _ _ c.requires.fresh
     (spent_all _ _ _ _ (spent_more _ _ _ _ _ _ c.loop-number.invariant.spent
-    (same_spent header.layout (g.F.File.size c.args.file.now) (g.F.File.size c.loop-number.file) (lanes_of c.loop-number.lists) (lanes_of c.make_file.new.lists) _ _ c.loop-number.invariant.keeps.size c.in-Ok-make_file.ensures.reads)))
+    (same_spent (g.F.File.size c.args.file.now) (g.F.File.size c.loop-number.file) (lanes_of c.loop-number.lists) (lanes_of c.make_file.new.lists) _ _ c.loop-number.invariant.keeps.size c.in-Ok-make_file.ensures.reads)))
 
 pub returns-in-Err-clause-reads : goal.returns-in-Err-clause-reads
 returns-in-Err-clause-reads g c =
     let header = c.args.plan.now.header.now in
-    start_less header.layout (g.F.File.size c.args.file.now) (omega (arith, (carried header.layout).page_least)) (lanes_of c.args.lists.now) _ _ c.requires.fresh
-    (spent_stops header.layout (g.F.File.size c.args.file.now) (g.F.File.size c.loop-number.file) (lanes_of c.args.lists.now) (lanes_of c.loop-number.lists) _ _ _ c.loop-number.invariant.keeps.size c.loop-number.invariant.spent c.in-Err.ensures.reads)
+    start_less (g.F.File.size c.args.file.now) (lanes_of c.args.lists.now) _ _ c.requires.fresh
+    (spent_stops (g.F.File.size c.args.file.now) (g.F.File.size c.loop-number.file) (lanes_of c.args.lists.now) (lanes_of c.loop-number.lists) _ _ _ c.loop-number.invariant.keeps.size c.loop-number.invariant.spent c.in-Err.ensures.reads)
 
 pub returns-clause-reads : goal.returns-clause-reads
 returns-clause-reads g c =
     let header = c.args.plan.now.header.now in
-    start_less header.layout (g.F.File.size c.args.file.now) (omega (arith, (carried header.layout).page_least)) (lanes_of c.args.lists.now) _ _ c.requires.fresh (spent_all _ _ _ _ c.loop-number.invariant.spent)
+    start_less (g.F.File.size c.args.file.now) (lanes_of c.args.lists.now) _ _ c.requires.fresh (spent_all _ _ _ _ c.loop-number.invariant.spent)
 
 -- WHAT WAS ASKED FOR, AND WHAT IS LEFT OF ANY FILE
 

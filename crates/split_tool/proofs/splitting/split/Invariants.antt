@@ -20,7 +20,7 @@ invariant-loop-number g l = record {
   parts : parts_of (lanes_of l.lists) ≡ parts_of (lanes_of l.fn.lists);
   progress : IfSome (g.F.File.bytes l.fn.file) (λ file. Progress l.plan.header.now l.plan.base.now file l.plan.rules (new_files l.plan.rules l.plan.base.now l.plan.header.now file (parts_of (lanes_of l.fn.lists)))
       (bad_reached l.plan.rules l.plan.header.now.layout file (parts_of (lanes_of l.fn.lists))) l.number (lanes_of l.lists) (g.D.Folder.files l.fn.folder) (g.D.Folder.files l.folder));
-  spent : Spent (to_read l.plan.header.now.layout (g.F.File.size l.fn.file) (lanes_of l.fn.lists)) (to_read l.plan.header.now.layout (g.F.File.size l.fn.file) (lanes_of l.lists)) (g.F.File.reads l.fn.file) (g.F.File.reads l.file);
+  spent : Spent (to_read (g.F.File.size l.fn.file) (lanes_of l.fn.lists)) (to_read (g.F.File.size l.fn.file) (lanes_of l.lists)) (g.F.File.reads l.fn.file) (g.F.File.reads l.file);
   keeps : KeepsFile g.F.File l.fn.file l.file;
   counts : KeepsCounts (g.D.Folder.counts l.fn.folder) (g.D.Folder.counts l.folder);
   unfinished : (g.D.Folder.counts l.folder).unfinished ≡ (g.D.Folder.counts l.fn.folder).unfinished;

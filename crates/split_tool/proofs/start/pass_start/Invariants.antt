@@ -10,8 +10,8 @@ use Rattle.split_tool.proofs.start.pass_start.Given as goal
 
 abbrev pub invariant-loop-i : goal.invariant-loop-i
 invariant-loop-i g l = record {
-  gone : GoneTo g.F.File l.plan.header.now.layout l.i l.fn.file l.file l.fn.lists l.lists;
-  started : IfSome (g.F.File.bytes l.fn.file) (λ file. All (Stands l.plan.header.now.layout file) (lanes_of l.fn.lists)
-      → (j : ℕ) (d : ListSeen) → j < l.i → StartsOn l.plan.header.now.layout file (Some l.start) (get_or l.fn.lists j d) (get_or l.lists j d));
+  gone : GoneTo g.F.File l.i l.fn.file l.file l.fn.lists l.lists;
+  started : IfSome (g.F.File.bytes l.fn.file) (λ file. All (Stands file) (lanes_of l.fn.lists)
+      → (j : ℕ) (d : ListSeen) → j < l.i → StartsOn file (Some l.start) (get_or l.fn.lists j d) (get_or l.lists j d));
   faults : g.F.File.faults l.file ≡ g.F.File.faults l.fn.file;
 }

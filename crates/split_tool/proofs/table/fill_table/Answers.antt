@@ -17,7 +17,7 @@ loop-i-init c = record {
 pub put_sizes-requires-clause-inside : goal.put_sizes-requires-clause-inside
 put_sizes-requires-clause-inside c =
     let lt : c.loop-i.i < length c.args.lists.now = search rules in
-    let here = lanes_at (λ (lane : Lane). lane.cpu < length c.args.table.now) c.args.lists.now c.loop-i.i c.index-lists-i.result c.lanes.result.now c.requires lt c.index-lists-i.is c.lanes.ensures in
+    let here = lanes_at (λ (lane : Lane). lane.cpu < length c.args.table.now) c.args.lists.now c.loop-i.i c.index-lists-i.result c.lanes.result.now c.requires lt c.index-lists-i.is c.lanes.ensures.value in
     λ k d inside. let below = here k d inside in omega (arith, below, c.loop-i.invariant.long)
 
 pub loop-i-preserved : goal.loop-i-preserved
@@ -32,12 +32,12 @@ loop-i-preserved c =
     record {
       long = c.put_sizes.ensures.long ∙ v.long;
       zeros = λ xs cpu counted inside none.
-          c.put_sizes.ensures.keeps xs cpu (counted_at l lists xs i x y c.lanes.result.now c.tallies.result.now counted lt c.index-lists-i.is c.index-lists-i-in-loop-i.is c.lanes.ensures c.tallies.ensures.value) (v.zeros xs cpu counted inside none);
+          c.put_sizes.ensures.keeps xs cpu (counted_at l lists xs i x y c.lanes.result.now c.tallies.result.now counted lt c.index-lists-i.is c.index-lists-i-in-loop-i.is c.lanes.ensures.value c.tallies.ensures.value) (v.zeros xs cpu counted inside none);
       puts = λ xs k e j d counted inside lt2.
-          let here = counted_at l lists xs i x y c.lanes.result.now c.tallies.result.now counted lt c.index-lists-i.is c.index-lists-i-in-loop-i.is c.lanes.ensures c.tallies.ensures.value in
+          let here = counted_at l lists xs i x y c.lanes.result.now c.tallies.result.now counted lt c.index-lists-i.is c.index-lists-i-in-loop-i.is c.lanes.ensures.value c.tallies.ensures.value in
           elim (cases_eq k i) [
             | inl same ↦
-                let all : c.lanes.result.now ≡ (get_or lists k e).all = same_lanes lists i k x e c.lanes.result.now same lt c.index-lists-i.is c.lanes.ensures in
+                let all : c.lanes.result.now ≡ (get_or lists k e).all = same_lanes lists i k x e c.lanes.result.now same lt c.index-lists-i.is c.lanes.ensures.value in
                 let long = ap length all in
                 subst (λ (lanes : List Lane). IsSized l xs c.put_sizes.new.table (get_or lanes j d).cpu) all (c.put_sizes.ensures.puts xs j d here (omega (arith, lt2, long)))
             | inr other ↦ c.put_sizes.ensures.keeps xs (get_or (get_or lists k e).all j d).cpu here (v.puts xs k e j d counted (omega (arith, inside, other)) lt2)

@@ -5,5 +5,5 @@ use Rattle.time_merge.proofs.in_step.take_nexts.Given as goal
 abbrev pub invariant-loop-i : goal.invariant-loop-i
 invariant-loop-i l = record {
   slots : length l.nexts ≡ length l.lanes;
-  nexts : take l.i l.nexts ≡ map (next_of l.layout) (take l.i l.lanes);
+  nexts : take l.i l.nexts ≡ map next_of (take l.i l.lanes);
 }

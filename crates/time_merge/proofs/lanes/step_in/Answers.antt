@@ -1,21 +1,8 @@
-use Rattle.std.proofs.Common.{List, length, set, ap, subst, sym, ◌∙◌}
-use Rattle.std.specs.List.{All}
-use Rattle.std.proofs.lemmas.List.{length-set}
-use Rattle.std.proofs.lemmas.List.Elements.{All-set}
-use Rattle.page_pool.specs.declared.lane.Lane.{Lane}
-use Rattle.event_cursor.specs.Standing.{IsInOrder}
-use Rattle.time_merge.proofs.LentLanes.{all_written, lent_step}
+use Rattle.time_merge.proofs.LentLanes.{lent_step}
 use Rattle.time_merge.proofs.lanes.step_in.Goals as goal
 
-pub returns-clause-in_order : goal.returns-clause-in_order
-returns-clause-in_order c =
-    let given = c.lanes-lanes.result.now in
-    let lane = c.step.new.lane in
-    let pool = c.args.pool.now in
-    let order : All (IsInOrder c.args.layout.now) given = subst (λ (ls : List Lane). All (IsInOrder c.args.layout.now) ls) (sym c.lanes-lanes.ensures.value) c.requires.in_order in
-    subst (λ (ls : List Lane). All (IsInOrder c.args.layout.now) ls) (sym (all_written pool (set given c.args.i lane) (length-set given c.args.i lane ∙ ap length c.lanes-lanes.ensures.value)))
-    (All-set (IsInOrder c.args.layout.now) given c.args.i lane c.step.ensures.in_order order)
-
-pub returns-clause-stepped : goal.returns-clause-stepped
-returns-clause-stepped c =
-    lent_step c.args.layout.now c.args.pool.now c.lanes-lanes.result.now c.args.i c.index-lanes-i.result c.step.new.lane c.lanes-lanes.ensures.value c.requires.inside c.step.ensures.used c.step.ensures.most
+pub returns : goal.returns
+returns c = record {
+  stepped =
+      lent_step c.args.pool.now c.lanes-lanes.result.now c.args.i c.index-lanes-i.result c.step.new.lane c.lanes-lanes.ensures.value c.requires.inside c.step.ensures.used c.step.ensures.most;
+}

@@ -4,14 +4,12 @@ use Rattle.time_merge.proofs.others.skip_others.Goals as goal
 
 pub loop-lane-init : goal.loop-lane-init
 loop-lane-init g c = record {
-  in_order = c.requires.in_order;
-  skipped = skipped_none _ c.args.layout.now c.args.lane.now;
+  skipped = skipped_none _ c.args.lane.now;
   most = omega arith;
 }
 
 pub loop-lane-preserved : goal.loop-lane-preserved
 loop-lane-preserved g c = record {
-  in_order = c.step.ensures.in_order;
-  skipped = skipped_more _ c.args.layout.now c.args.lane.now c.loop-lane.lane c.step.new.lane c.loop-lane.invariant.skipped (c.holds_other.ensures.other c.loop-lane-test.true) c.step.ensures.used;
+  skipped = skipped_more _ c.args.lane.now c.loop-lane.lane c.step.new.lane c.loop-lane.invariant.skipped (c.holds_other.ensures.other c.loop-lane-test.true) c.step.ensures.used;
   most = omega (arith, c.loop-lane.invariant.most, c.step.ensures.most);
 }

@@ -12,10 +12,10 @@ loop-i-preserved g c =
     let mark = c.in-Some.ensures in
     let before = c.loop-i.invariant.so_far in
     let inside : i < length now = omega (arith, mark.inside, c.requires.marks, same_length now first before.parts) in
-    let here = up_to_mark g.F.File c.args.layout.now c.args.file.now first c.loop-i.file now c.args.moved.now c.loop-i.from c.requires.marks c.requires.unmoved before i mark in
+    let here = up_to_mark g.F.File c.args.file.now first c.loop-i.file now c.args.moved.now c.loop-i.from c.requires.marks c.requires.unmoved before i mark in
     record {
       within = omega (arith, mark.inside);
-      so_far = one_ready g.F.File c.args.layout.now c.args.file.now first c.loop-i.file now i here c.make_ready.new.file c.index-lanes-i.result c.make_ready.new.lane inside
+      so_far = one_ready g.F.File c.args.file.now first c.loop-i.file now i here c.make_ready.new.file c.index-lanes-i.result c.make_ready.new.lane inside
           c.in_ok-make_ready.ensures.loads c.in_ok-make_ready.ensures.kept c.in_ok-make_ready.ensures.ready c.in_ok-make_ready.ensures.cause.kept;
     }
 
@@ -27,8 +27,8 @@ returns-in_err-make_ready-clause-makes_ready g c =
     let mark = c.in-Some.ensures in
     let before = c.loop-i.invariant.so_far in
     let inside : i < length now = omega (arith, mark.inside, c.requires.marks, same_length now first before.parts) in
-    let here = up_to_mark g.F.File c.args.layout.now c.args.file.now first c.loop-i.file now c.args.moved.now c.loop-i.from c.requires.marks c.requires.unmoved before i mark in
-    let done = one_loaded g.F.File c.args.layout.now c.args.file.now first c.loop-i.file now i here c.make_ready.new.file c.index-lanes-i.result c.make_ready.new.lane inside
+    let here = up_to_mark g.F.File c.args.file.now first c.loop-i.file now c.args.moved.now c.loop-i.from c.requires.marks c.requires.unmoved before i mark in
+    let done = one_loaded g.F.File c.args.file.now first c.loop-i.file now i here c.make_ready.new.file c.index-lanes-i.result c.make_ready.new.lane inside
     c.make_ready.ensures.loads c.make_ready.ensures.kept in
     record {
       loads = done.loads;
@@ -44,9 +44,9 @@ returns-clause-makes_ready g c =
     let first = c.args.lanes.now in
     let now = c.loop-i.lanes in
     let before = c.loop-i.invariant in
-    let done = up_to_end g.F.File c.args.layout.now c.args.file.now first c.loop-i.file now c.args.moved.now c.loop-i.from c.requires.marks c.requires.unmoved before.so_far before.within c.in_default.ensures in
+    let done = up_to_end g.F.File c.args.file.now first c.loop-i.file now c.args.moved.now c.loop-i.from c.requires.marks c.requires.unmoved before.so_far before.within c.in_default.ensures in
     record {
-      loads = all_loaded g.F.File c.args.layout.now c.args.file.now first c.loop-i.file now done;
+      loads = all_loaded g.F.File c.args.file.now first c.loop-i.file now done;
       ready = λ j d less. done.ready j d (omega arith) less;
       each = done.each;
       cause = search rules;

@@ -16,5 +16,5 @@ pub returns-clause-unused : goal.returns-clause-unused
 returns-clause-unused c =
     let lanes = c.set_lanes.new.lanes in
     let same : length lanes ≡ length c.in_ok-pool.pool = omega (arith, c.set_lanes.auto.lanes, ap length c.lanes.ensures.value) in
-    subst (λ (xs : List Lane). All (IsUnused c.args.page c.args.room) xs) (sym (all_written c.in_ok-pool.pool lanes same))
-    (c.set_lanes.ensures.unused c.args.page c.args.room (new_unused c.args.page c.args.room c.in_ok-pool.pool c.lanes.result.now c.lanes.ensures.value c.in_ok-pool.ensures.lanes))
+    subst (λ (xs : List Lane). All (IsUnused c.args.layout.now c.args.room) xs) (sym (all_written c.in_ok-pool.pool lanes same))
+    (c.set_lanes.ensures.unused c.args.layout.now c.args.room (new_unused c.args.layout.now c.args.room c.in_ok-pool.pool c.lanes.result.now c.lanes.ensures.value c.in_ok-pool.ensures.lanes))

@@ -11,5 +11,5 @@ loop-i-preserved c =
     record {
       same = length-set c.loop-i.lanes c.loop-i.i c.set_lane.new.lane ∙ so_far.same;
       parts = one_set c.loop-i.lanes c.args.parts.now c.loop-i.i c.set_lane.new.lane _ inside within c.set_lane.ensures.part.0 c.set_lane.ensures.part.1 so_far.parts;
-      unused = λ len room all. still_unused len room c.loop-i.lanes c.loop-i.i _ c.set_lane.new.lane inside c.set_lane.ensures.cursor c.set_lane.ensures.page c.set_lane.ensures.region (so_far.unused len room all);
+      unused = λ layout room all. still_unused layout room c.loop-i.lanes c.loop-i.i _ c.set_lane.new.lane inside c.set_lane.ensures.layout c.set_lane.ensures.cursor c.set_lane.ensures.page c.set_lane.ensures.region (so_far.unused layout room all);
     }

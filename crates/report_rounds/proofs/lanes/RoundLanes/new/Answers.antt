@@ -20,4 +20,4 @@ invariant_of-result c =
     }
 
 pub returns-clause-room : goal.returns-clause-room
-returns-clause-room c = unused_room c.args.layout.now.page c.args.room c.in_ok-pool.pool c.in_ok-pool.ensures.unused
+returns-clause-room c = unused_room c.args.layout.now c.args.room c.in_ok-pool.pool c.in_ok-pool.ensures.unused

@@ -29,7 +29,7 @@ invariant_of-self g c =
     let made = c.pack_in.ensures in
     let same = sym (same_length c.pack_in.new.pool c.self.inside.pool made.parts) in
     record {
-      in_order = made.in_order;
+      layouts = made.layouts;
       rise = subst CpusRise (sym made.parts) c.self.invariant.rise;
       slots = c.self.invariant.slots ∙ same;
       fronts_long = c.self.invariant.fronts_long ∙ same;
@@ -53,7 +53,7 @@ returns-clause-whole g c = c.pack_in.ensures.whole ∙ ap (λ (v : ListSeen). v.
 
 pub returns-clause-told : goal.returns-clause-told
 returns-clause-told g c =
-    let Goal : ListSeen → List Place → List Tally → Type 0 = λ v ps ts. IfSome (g.F.File.bytes c.args.file.now) (λ file. All (Stands v.layout file) v.all → (lists : List (List ItemData)) → AreFronts v.layout file v.all ps ts lists
+    let Goal : ListSeen → List Place → List Tally → Type 0 = λ v ps ts. IfSome (g.F.File.bytes c.args.file.now) (λ file. All (Stands file) v.all → (lists : List (List ItemData)) → AreFronts file v.all ps ts lists
     → IsPackedAll v.layout file lists (record { lanes = v.all; written = g.O.Sink.written c.args.out.now }) (record { lanes = c.pack_in.new.pool; written = g.O.Sink.written c.pack_in.new.out }) c.pack_in.result) in
     let seen : ListSeen = record { layout = c.self.inside.layout; all = c.self.inside.pool; fronts = c.self.inside.fronts.items; tallies = c.self.inside.tallies.items } in
     subst (λ (v : ListSeen). Goal v v.fronts v.tallies) c.self.view_is
@@ -68,7 +68,7 @@ returns-clause-numbers g c = subst (λ (v : ListSeen). c.pack_in.result ≡ code
 
 pub returns-clause-reads : goal.returns-clause-reads
 returns-clause-reads g c =
-    let Goal : ListSeen → List Place → List Tally → Type 0 = λ v ps ts. g.F.File.reads c.pack_in.new.file ≤ raised (g.F.File.reads c.args.file.now) (all_packing v.layout (g.F.File.size c.args.file.now) v.all ps ts) in
+    let Goal : ListSeen → List Place → List Tally → Type 0 = λ v ps ts. g.F.File.reads c.pack_in.new.file ≤ raised (g.F.File.reads c.args.file.now) (all_packing (g.F.File.size c.args.file.now) v.all ps ts) in
     let seen : ListSeen = record { layout = c.self.inside.layout; all = c.self.inside.pool; fronts = c.self.inside.fronts.items; tallies = c.self.inside.tallies.items } in
     subst (λ (v : ListSeen). Goal v v.fronts v.tallies) c.self.view_is
     (subst (λ (ps : List Place). Goal seen ps c.self.inside.tallies.items) c.as_slice.ensures.value

@@ -1,4 +1,4 @@
-use Rattle.std.proofs.Common.{◌-◌, ◌≤◌, Some, subst, sym, ◌∙◌}
+use Rattle.std.proofs.Common.{arith, ◌-◌, ◌≤◌, Some, subst, sym, ◌∙◌}
 use Rattle.std.specs.Option.{IfSome}
 use Rattle.std.specs.Result.{OnOk}
 use Rattle.std.specs.List.{All}
@@ -17,7 +17,7 @@ invariant_of-self g c =
     let made = c.pass_in.ensures in
     let same = sym (same_length c.pass_in.new.pool c.self.inside.pool made.through.parts) in
     record {
-      in_order = made.through.in_order;
+      layouts = λ i d lt. (made.through.advance i d (omega (arith, same, lt))).layout ∙ c.self.invariant.layouts i d (omega (arith, same, lt));
       rise = subst CpusRise (sym made.through.parts) c.self.invariant.rise;
       slots = made.slots ∙ c.self.invariant.slots ∙ same;
       fronts_long = c.self.invariant.fronts_long ∙ same;
@@ -26,15 +26,15 @@ invariant_of-self g c =
 
 pub returns-clause-through : goal.returns-clause-through
 returns-clause-through g c =
-    subst (λ (v : ListSeen). GoThrough g.F.File v.layout c.args.file.now c.pass_in.new.file v.all c.pass_in.new.pool) c.self.view_is c.pass_in.ensures.through
+    subst (λ (v : ListSeen). GoThrough g.F.File c.args.file.now c.pass_in.new.file v.all c.pass_in.new.pool) c.self.view_is c.pass_in.ensures.through
 
 pub returns-clause-told : goal.returns-clause-told
 returns-clause-told g c =
-    subst (λ (v : ListSeen). OnOk c.pass_in.result (IfSome (g.F.File.bytes c.args.file.now) (λ file. All (Stands v.layout file) v.all → ListStarted v.layout file (Some c.args.start) v.all c.pass_in.new.pool)))
+    subst (λ (v : ListSeen). OnOk c.pass_in.result (IfSome (g.F.File.bytes c.args.file.now) (λ file. All (Stands file) v.all → ListStarted file (Some c.args.start) v.all c.pass_in.new.pool)))
     c.self.view_is c.pass_in.ensures.told
 
 pub returns-clause-reads_done : goal.returns-clause-reads_done
 returns-clause-reads_done g c =
     let len = g.F.File.size c.args.file.now in
-    subst (λ (v : ListSeen). OnOk c.pass_in.result (g.F.File.reads c.pass_in.new.file ≤ raised (g.F.File.reads c.args.file.now) (all_unread v.layout len v.all - all_unread v.layout len c.pass_in.new.pool)))
+    subst (λ (v : ListSeen). OnOk c.pass_in.result (g.F.File.reads c.pass_in.new.file ≤ raised (g.F.File.reads c.args.file.now) (all_unread len v.all - all_unread len c.pass_in.new.pool)))
     c.self.view_is c.pass_in.ensures.reads_done

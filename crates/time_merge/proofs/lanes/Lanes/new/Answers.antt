@@ -4,14 +4,14 @@ use Rattle.trace_base.specs.declared.part.Part.{Part}
 use Rattle.subpage.specs.Arrangement.{CpusRise}
 use Rattle.page_pool.specs.declared.lane.Lane.{Lane}
 use Rattle.tournament_tree.specs.declared.slot_key.SlotKey.TheVariants.{Empty}
-use Rattle.time_merge.proofs.UnusedLanes.{unused_in_order}
+use Rattle.time_merge.proofs.UnusedLanes.{unused_layouts}
 use Rattle.time_merge.proofs.lanes.Lanes.new.Goals as goal
 
 pub invariant_of-result : goal.invariant_of-result
 invariant_of-result c =
     let pool = c.in_ok-pool.pool in
     record {
-      in_order = unused_in_order c.args.layout.now 0 pool c.in_ok-pool.ensures.unused;
+      layouts = unused_layouts c.args.layout.now 0 pool c.in_ok-pool.ensures.unused;
       rise = subst (λ (ps : List (ℕ × Part)). CpusRise ps) (sym c.in_ok-pool.ensures.parts) c.requires.rise;
       slots = omega (
         arith,
