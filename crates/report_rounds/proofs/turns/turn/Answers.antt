@@ -1,18 +1,31 @@
 use Rattle.std.proofs.Common.{◌≡◌, ◌-◌, ◌<◌, ◌≤◌, ℕ, Bool, List, length, ap, subst, sym, ◌∙◌}
+use Rattle.std.specs.List.{All}
 use Rattle.std.specs.Option.{IfSome}
 use Rattle.std.proofs.lemmas.List.{length-map, with_items_is}
+use Rattle.std.proofs.lemmas.List.Elements.{All-weaker}
+use Rattle.trace_base.specs.declared.layout.Layout.{Layout}
 use Rattle.trace_outside.specs.Causes.{raised}
 use Rattle.tournament_tree.specs.declared.slot_key.SlotKey.{SlotKey}
 use Rattle.time_merge.specs.Horizons.{high_of}
+use Rattle.time_merge.specs.LaneRows.{HasLayout}
 use Rattle.time_merge.specs.Nexts.{IsLeastAt}
 use Rattle.time_merge.specs.Reads.{all_unread}
 use Rattle.round_print.specs.Prints.{head_kept}
 use Rattle.round_print.specs.Rounds.{KeepsMarks}
+use Rattle.report_rounds.specs.Between.{IsBetween}
 use Rattle.report_rounds.proofs.LeastPlace.{follows, outcome_sound}
 use Rattle.report_rounds.proofs.Reading.{unread_turned}
 use Rattle.report_rounds.proofs.Settling.{need_no_look}
 use Rattle.report_rounds.proofs.Turning.{IsFormed, formed_rising, now_all, now_less, now_parts, turned_told, failed_told}
 use Rattle.report_rounds.proofs.turns.turn.Goals as goal
+
+pub format_lanes-requires-clause-page : goal.format_lanes-requires-clause-page
+format_lanes-requires-clause-page g c = λ lifetimes live.
+    let layout = c.args.layout.now in
+    let before : All (HasLayout layout) c.args.lanes.now =
+    All-weaker (IsBetween (g.L.LineFormat.text c.args.form.now) layout) (HasLayout layout) (λ a s. s.layout_is) c.args.lanes.now c.requires.between.each in
+    All-weaker (HasLayout layout) (λ a. a.layout.page ≡ layout.page) (λ a is. ap (λ (l : Layout). l.page) is) c.make_moved_ready.new.lanes
+    (c.in-Ok.ensures.makes_ready.loads.layouts layout before)
 
 pub print_round-requires-clause-rising : goal.print_round-requires-clause-rising
 print_round-requires-clause-rising g c =
