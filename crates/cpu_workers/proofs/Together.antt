@@ -1,9 +1,7 @@
 -- Lanes that are formatted, one after another and in two groups.
 use Rattle.std.proofs.Common.{◌≡◌, ℕ, ◌+◌, ◌-◌, ◌<◌, ◌≤◌, Bool, true, false, List, ◌++◌, length, get_or, set, take, drop, inl, inr, refl, sym, ap, subst, ◌∙◌, arith}
-use Rattle.std.specs.List.{All}
 use Rattle.std.proofs.lemmas.Bool.{cases_lt}
 use Rattle.std.proofs.lemmas.List.{get_or_append_left, get_or-append_right, get_or_default, get_or-set_same, get_or-set_other, length-append, take-append-drop}
-use Rattle.std.proofs.lemmas.List.Elements.{All-get_or}
 use Rattle.subpage.specs.ItemData.{ItemData}
 use Rattle.line_holes.specs.Holes.{LineText}
 use Rattle.page_pool.specs.declared.lane.Lane.{Lane}

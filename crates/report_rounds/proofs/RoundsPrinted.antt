@@ -5,13 +5,11 @@ use Rattle.std.specs.List.{All, flat_map}
 use Rattle.std.proofs.lemmas.Bool.{cases_Bool}
 use Rattle.std.proofs.lemmas.List.Elements.{All-map}
 use Rattle.trace_base.specs.declared.layout.Layout.{Layout}
-use Rattle.trace_base.specs.declared.part.Part.{Part}
 use Rattle.subpage.specs.ItemData.{ItemData}
 use Rattle.subpage.specs.Arrangement.{Keyed, key_of, cpu_of, IsRising, by_key, CpusRise}
 use Rattle.subpage.specs.Cut.{Cut}
 use Rattle.line_holes.specs.Holes.{LineText}
 use Rattle.page_pool.specs.Lines.{Line, Lines}
-use Rattle.page_pool.specs.declared.cursor.Cursor.{Cursor}
 use Rattle.page_pool.specs.declared.lane.Lane.{Lane}
 use Rattle.page_pool.proofs.Keeping.{one_lane}
 use Rattle.event_cursor.specs.Standing.{Stands, left_of}

@@ -1,6 +1,6 @@
 // Trees and dirty bits, once the lanes that moved are formatted.
 
-ghost use Rattle.std.specs.Prelude.{◌≡◌, All, length, map};
+ghost use Rattle.std.specs.Prelude.{◌≡◌, length, map};
 ghost use Rattle.page_pool.specs.Moved.{AllUnmoved};
 ghost use Rattle.time_merge.specs.Horizons.{high_of};
 ghost use Rattle.time_merge.specs.LaneRows.{IsReady};
