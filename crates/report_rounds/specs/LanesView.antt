@@ -9,7 +9,7 @@ use Rattle.report_rounds.specs.declared.lanes.RoundLanes.TheInside.{Inside}
 abbrev pub lanes_view : Inside → LanesSeen
 lanes_view lanes = record { layout = lanes.layout; all = lanes.pool }
 
--- They stand before their first items, the processors' numbers rise, each has a slot in both trees, and all are dirty.
+-- They have their layout and stand before their first items, the processors' numbers rise, each has a slot in both trees, and all are dirty.
 pub record AreAtStart (lanes : Inside) : Type 0 where
   pub start : All (IsAtStart lanes.layout) lanes.pool
   pub rise : CpusRise (parts_of lanes.pool)

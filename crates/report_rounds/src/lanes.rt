@@ -12,7 +12,7 @@ use trace_base::{Layout, Part};
 /// The lanes of a report in rounds, before their first items.
 ///
 /// All memory of the rounds is in them: a region of lines a lane, and what tells of the lanes which of them a round is to look
-/// at. A contract sees the layout of their sub-buffers and the lanes.
+/// at. They have one layout. A contract sees it and the lanes.
 #[derive(Drop)]
 pub struct RoundLanes {
     pub(crate) layout: Layout,
