@@ -95,7 +95,7 @@ pub fn step(lane: &mut Lane)
     step_by(&layout, lane)
 }
 
-/// The same by the lane's layout, of which the caller may know more than the lane tells.
+/// The same, by the lane's layout as the caller has it: a loop that was made for one byte order goes by a layout of that order.
 #[inline(always)]
 pub fn step_by(layout: &Layout, lane: &mut Lane)
     requires layout { lane.old.layout ≡ layout.now }

@@ -15,7 +15,7 @@ abbrev pub Unless : Bool → Type 0 → Type 0
 Unless true fact = Unit {0}
 Unless false fact = fact
 
--- The lane is still its processor's, and has all that may not change.
+-- The lane is still its processor's, has its layout, and has all that may not change.
 pub record KeepsLane (may : MayChange) (before now : Lane) : Type 0 where
   pub cpu : now.cpu ≡ before.cpu
   pub layout : now.layout ≡ before.layout

@@ -2,7 +2,6 @@
 use Rattle.std.proofs.Common.{◌≡◌, arith, ℕ, ◌+◌, ◌<◌, Bool, List, ◌++◌, length, take, set, get_or, sym, ap, subst, ◌∙◌}
 use Rattle.std.proofs.lemmas.List.{append-nil, drop_all, take_all}
 use Rattle.std.proofs.lemmas.List.{get_or_default, length-set}
-use Rattle.trace_base.specs.declared.layout.Layout.{Layout}
 use Rattle.trace_outside.specs.declared.outside.File as file
 use Rattle.subpage.specs.ItemData.{ItemData}
 use Rattle.page_pool.specs.Lending.{written}

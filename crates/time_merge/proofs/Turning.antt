@@ -4,7 +4,6 @@ use Rattle.std.specs.Option.{IfSome, unwrap_or}
 use Rattle.std.specs.List.{All, fold}
 use Rattle.std.proofs.lemmas.List.{get_or-take, get_or-drop, get_or-set_same, get_or-set_other, length-take-le, length-drop, length-set, take_at, drop_at, drop_more}
 use Rattle.std.proofs.lemmas.List.Elements.{All-append, All-cons, All-head, All-tail, All-map, All-get_or}
-use Rattle.trace_base.specs.declared.layout.Layout.{Layout}
 use Rattle.subpage.specs.ItemData.{ItemData, item_time}
 use Rattle.subpage.specs.Arrangement.{Keyed, key_of, cpu_of, keyed_from, CpusRise, IsRising}
 use Rattle.subpage.specs.Cut.{Cut}

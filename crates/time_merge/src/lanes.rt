@@ -30,8 +30,8 @@ use trace_outside::{Failed, File};
 
 /// The lanes of several processors over one file, gone through together by what comes next of each.
 ///
-/// The processors' numbers rise, and the sub-buffers of all lanes have one layout. A contract sees that, the lanes, and of
-/// which of them it is known what comes next.
+/// The processors' numbers rise, and the sub-buffers of all lanes have one layout. A contract sees this layout, the
+/// lanes, and of which of them it is known what comes next.
 #[derive(Drop)]
 pub struct Lanes {
     layout: Layout,

@@ -6,8 +6,8 @@
 //! plain call beside the fast one, which tests compare with it, while every command goes by the tree. Over fresh lanes the
 //! list is that of the reached items ([`laws`]).
 //!
-//! Whoever holds the lanes of a file, and takes their items one by one, holds [`Lanes`]: these are in order, their processors'
-//! numbers rise, and the tree is in step with them, so that no call says it again.
+//! Whoever holds the lanes of a file, and takes their items one by one, holds [`Lanes`]: these have one layout, their
+//! processors' numbers rise, and the tree is in step with them, so that no call says it again.
 //!
 //! Whoever takes many items at once makes the lanes ready, all of them ([`make_all_ready`]) or, where dirty bits tell which
 //! ones moved, those alone ([`make_moved_ready`]; [`wants_load`] tells which lanes are to be dirty), and asks for the
