@@ -1,5 +1,5 @@
 -- A round takes the front of what is to come: the items of all lanes up to a horizon, in one order.
-use Rattle.std.proofs.Common.{◌≡◌, ℕ, zero, suc, ◌+◌, ◌<◌, ◌≤◌, max, true, false, eqb, leb, ltb, List, [], ◌∷◌, ◌++◌, length, map, get_or, sum_by, Option, Some, None, refl, sym, ap, subst, ◌∙◌, append-nil, inl, inr, arith}
+use Rattle.std.proofs.Common.{◌≡◌, ℕ, zero, suc, ◌+◌, ◌<◌, ◌≤◌, max, true, false, eqb, leb, ltb, List, [], ◌∷◌, ◌++◌, length, map, get_or, sum_by, Option, Some, refl, sym, ap, subst, ◌∙◌, append-nil, inl, inr, arith}
 use Rattle.std.specs.Option.{IfSome, unwrap_or}
 use Rattle.std.specs.List.{All, flat_map}
 use Rattle.std.proofs.lemmas.Bool.{cases_Bool, lt-ltb, eq-eqb, ne_eqb}
@@ -17,15 +17,14 @@ use Rattle.page_pool.proofs.Keeping.{by_both}
 use Rattle.event_cursor.specs.Keys.{keyed_behind}
 use Rattle.event_cursor.specs.Standing.{Stands, left_of}
 use Rattle.event_cursor.proofs.Standing.{left_over, stands_over}
-use Rattle.tournament_tree.proofs.Ranks.{rank_from}
 use Rattle.time_merge.specs.LaneRows.{parts_of, row_of, rows_of, to_come, next_of}
 use Rattle.time_merge.specs.Rounds.{Waiting, row_in, rows_in, due, not_due, behind, IsWaiting}
-use Rattle.time_merge.specs.Rows.{Row, Rise, rank, IsRow, bound, bound_of, coming, cpus, NotBefore, up_to}
+use Rattle.time_merge.specs.Rows.{Row, Rise, IsRow, coming, cpus, NotBefore, up_to}
 use Rattle.time_merge.specs.Turns.{keyed_used}
 use Rattle.time_merge.proofs.LaneLaws.{after_above, bound_is, is_row, keyed_own, rows_rise}
 use Rattle.time_merge.proofs.Parting.{all_by_key}
 use Rattle.time_merge.proofs.RoundLaws.{round}
-use Rattle.time_merge.proofs.RowLaws.{From, HasKeyFrom, parts_later, cut_reached}
+use Rattle.time_merge.proofs.RowLaws.{From, from, parts_later, cut_reached}
 use Rattle.split_pieces.specs.Allowing.{IsEventUpTo}
 use Rattle.split_pieces.specs.Cuts.{items_of_cpu}
 use Rattle.split_passes.specs.declared.tally.Tally.{Tally}
@@ -40,21 +39,6 @@ keys_rise : (cpu high : ℕ) (xs : List ItemData) → IsRising key_of (keyed_fro
 keys_rise cpu high [] = tt
 keys_rise cpu high (x ∷ []) = tt
 keys_rise cpu high (x ∷ y ∷ ys) = (omega arith, keys_rise cpu (max high (item_time x)) (y ∷ ys))
-
-rising_from : (n : ℕ) (x : Keyed) (xs : List Keyed) → n ≤ x.key + 1 → IsRising key_of (x ∷ xs) → All (HasKeyFrom key_of cpu_of n) (x ∷ xs)
-rising_from n x [] le r = All-cons (HasKeyFrom key_of cpu_of n) x [] le (All-nil (HasKeyFrom key_of cpu_of n))
-rising_from n x (y ∷ ys) le r = All-cons (HasKeyFrom key_of cpu_of n) x (y ∷ ys) le (rising_from n y ys (omega (arith, le, r.0)) r.1)
-
--- nothing of a row comes before what comes next of it
-from_next : (n : ℕ) (row : Row Keyed) → IsRow key_of cpu_of row → NotBefore n (bound key_of cpu_of row) → From key_of cpu_of n row
-from_next n row is h = let both = of row.items row.cut is.rising is.cut_last h in record { items = both.0; cut = both.1 }
-  where
-    of : (xs : List Keyed) (cut : Option Cut) → IsRising key_of xs → IfSome cut (λ cut. All (λ x. x.key < rank cut.key) xs) → NotBefore n (bound_of key_of cpu_of xs cut)
-        → All (HasKeyFrom key_of cpu_of n) xs × IfSome cut (λ c. n ≤ rank c.key)
-    of [] None r l h = (All-nil (HasKeyFrom key_of cpu_of n), tt)
-    of [] (Some cut) r l h = (All-nil (HasKeyFrom key_of cpu_of n), rank_from n cut.key h)
-    of (x ∷ xs) None r l h = (rising_from n x xs h r, tt)
-    of (x ∷ xs) (Some cut) r l h = (rising_from n x xs h r, omega (arith, h, All-head (λ y. y.key < rank cut.key) x xs l))
 
 events_up_to : (until cpu high : ℕ) (xs : List ItemData) → All IsEventItem xs → All (λ x. x.key ≤ until) (keyed_from cpu high xs) → All (IsEventUpTo until) (keyed_from cpu high xs)
 events_up_to until cpu high [] e h = All-nil (IsEventUpTo until)
@@ -166,7 +150,7 @@ module _ (file : List ℕ) (until : ℕ) where
         cpu = keeps.cpu;
         cut = ap (λ (c : ℕ). own_cut b.layout file (c, b.part)) keeps.cpu ∙ by_both (λ k q. own_cut k file (a.cpu, q)) keeps.layout keeps.part;
         up_to = events_up_to until a.cpu (unwrap_or a.cursor.high 0) xs h.events h.few.up_to;
-        later = let same : until + 2 ≡ (until + 1) + 1 = omega arith in from_next ((until + 1) + 1) (row_of file b) (is_row file b now.0) (subst (NotBefore ((until + 1) + 1)) (sym (bound_is file b now.0 h.ready)) (subst (λ (n : ℕ). NotBefore n (next_of b)) same h.later));
+        later = let same : until + 2 ≡ (until + 1) + 1 = omega arith in from key_of cpu_of ((until + 1) + 1) (row_of file b) (is_row file b now.0) (subst (NotBefore ((until + 1) + 1)) (sym (bound_is file b now.0 h.ready)) (subst (λ (n : ℕ). NotBefore n (next_of b)) same h.later));
       }
 
   abbrev waiting : Lane → Lane → List ItemData → Waiting Keyed

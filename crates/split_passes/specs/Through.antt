@@ -11,8 +11,8 @@ use Rattle.time_merge.specs.LaneRows.{parts_of}
 use Rattle.time_merge.specs.Reads.{all_reading, all_unread}
 use Rattle.split_passes.specs.Reads.{sizes_between}
 
--- Lanes went through items of their file, maybe none: they keep their parts, each went on or stayed as it
--- was, and each sub-buffer was read once.
+-- Lanes went through items of their file, maybe none: they keep their layouts and parts, each went on or
+-- stayed as it was, and each sub-buffer was read once.
 pub record GoThrough {F : Type 0} (f : file.Ghosts F) (file_before file_now : F) (before now : List Lane) : Type 0 where
   pub parts : parts_of now ≡ parts_of before
   pub advance : (i : ℕ) (d : Lane) → i < length before → Advances (slice_index_or before i d) (slice_index_or now i d)
@@ -21,8 +21,8 @@ pub record GoThrough {F : Type 0} (f : file.Ghosts F) (file_before file_now : F)
   pub unread : all_unread (f.size file_before) now ≤ all_unread (f.size file_before) before
   pub keeps : KeepsFile f file_before file_now
 
--- One lane went on among its sub-buffers before a limit, or failed on the way: it keeps its part, and each of them was
--- read once at most.
+-- One lane went on among its sub-buffers before a limit, or failed on the way: it keeps its layout and its part, and each
+-- of them was read once at most.
 pub record GoesUpTo {F : Type 0} (f : file.Ghosts F) (limit : ℕ) (file_before file_now : F) (before now : Lane) : Type 0 where
   pub part : KeepsLane seeking before now
   pub reads : f.reads file_now

@@ -1,6 +1,6 @@
 // How far all lanes of a piece can be gone through one by one.
 
-ghost use Rattle.std.specs.Prelude.{◌≡◌, ◌<◌, ◌≤◌, ℕ, All, IfSome, IsTrue, None, length, slice_index_or};
+ghost use Rattle.std.specs.Prelude.{◌≡◌, ◌<◌, ◌≤◌, ℕ, IfSome, IsTrue, None, length, slice_index_or};
 ghost use Rattle.subpage.specs.Marks.{IsMark};
 ghost use Rattle.page_pool.specs.declared.lane.Lane.{Lane};
 ghost use Rattle.split_passes.specs.Rounds.{HasLater, HoldsLater, ReachesPast};

@@ -1,6 +1,6 @@
 // What a piece takes at once after an item, and when it pays to look for it.
 
-ghost use Rattle.std.specs.Prelude.{◌≡◌, All, length, slice_index_or};
+ghost use Rattle.std.specs.Prelude.{◌≡◌, length, slice_index_or};
 ghost use Rattle.subpage.specs.Arrangement.{CpusRise};
 ghost use Rattle.page_pool.specs.declared.lane.Lane.{Lane};
 ghost use Rattle.time_merge.specs.LaneRows.{parts_of};

@@ -1,6 +1,6 @@
 // Runs of plain records that a piece takes at once.
 
-ghost use Rattle.std.specs.Prelude.{◌≡◌, ◌≤◌, ℕ, All, IfSome, false, length, slice_index_or};
+ghost use Rattle.std.specs.Prelude.{◌≡◌, ◌≤◌, ℕ, IfSome, false, length, slice_index_or};
 ghost use Rattle.subpage.specs.Arrangement.{CpusRise};
 ghost use Rattle.page_pool.specs.Keeping.{KeepsLane, stepping};
 ghost use Rattle.page_pool.specs.declared.lane.Lane.{Lane};
