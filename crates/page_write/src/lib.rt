@@ -7,7 +7,8 @@
 //! written.
 //!
 //! Over a processor's items there are two passes: [`PageCount`] tells how many sub-buffers they take, and [`write_item`] and
-//! [`write_last`] write these. The other functions are laws, which a program need not call: their contracts say what is read back from packed items.
+//! [`write_last`] write these. The other functions are laws, which a program need not call. Their contracts say that items have
+//! one packing and are read back from it, which items can be packed, and that [`Room`] and [`Packer`] answer alike.
 #![tactic(auto)]
 
 mod added;
