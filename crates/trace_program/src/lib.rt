@@ -18,8 +18,8 @@ use trace_run::{Status, run};
 /// The number with which the program ends where its words cannot be read, which no run answers.
 pub const UNREADABLE_WORDS: u8 = 7;
 
-/// Runs the program on its words, and answers the number with which it is to end: that of the run's status, or where the
-/// words are not there 6 for want of memory and 7 for any other reason.
+/// Runs the program on its words, and answers the number with which it is to end: that of the run's status, or 6 or 7 where the
+/// words are not there.
 ///
 /// The output goes to `out`, and the message to `err`.
 pub fn program<R, O, E>(rt: &R, words: io::Result<Words>, out: O, err: E) -> u8
