@@ -6,7 +6,7 @@ use Rattle.std.proofs.lemmas.Bool.{cases_eq}
 use Rattle.tournament_tree.specs.declared.slot_key.SlotKey.{SlotKey}
 use Rattle.tournament_tree.specs.declared.slot_key.SlotKey.TheVariants.{Empty, At}
 use Rattle.tournament_tree.specs.Least.{IsLeastAt}
-use Rattle.tournament_tree.specs.Nodes.{HasLeaves, IsSettled, above, mark_of, most, node}
+use Rattle.tournament_tree.specs.Nodes.{IsSettled, above, mark_of, most, node}
 use Rattle.tournament_tree.proofs.Root.{least_of}
 
 -- the last step up
@@ -86,11 +86,11 @@ all_below slots nodes place at least one below q from lt other some =
     let up = to_first q q (omega arith) some in
     below up.0 q (up.1 ∙ sym one) from lt other
 
--- a slot whose leaf is less than those of all others has the least key
-pub least_with : (keys : List SlotKey) (nodes : List ℕ) (slot mark key : ℕ) → slot < length keys → length keys ≤ most → HasLeaves nodes keys
-    → ((q : ℕ) → length keys ≤ q → q < 2 * length keys → q ≢ length keys + slot → mark ≤ node nodes q) → mark_of slot (At key) < mark
+-- a slot whose whole mark is less than those of all others has the least key
+pub least_with : (keys : List SlotKey) (slot mark key : ℕ) → slot < length keys → length keys ≤ most
+    → ((j : ℕ) → j < length keys → j ≢ slot → mark ≤ mark_of j (get_or keys j Empty)) → mark_of slot (At key) < mark
     → IsLeastAt (set keys slot (At key)) (Some slot)
-least_with keys nodes slot mark key inside few leaves least before =
+least_with keys slot mark key inside few least before =
     let now : List SlotKey = set keys slot (At key) in
     let long : length now ≡ length keys = length-set keys slot (At key) in
     let own : get_or now slot Empty ≡ At key = get_or-set_same keys slot (At key) Empty inside in (
@@ -100,9 +100,8 @@ least_with keys nodes slot mark key inside few leaves least before =
             | inl same ↦ subst (λ (k : ℕ). mark_of slot (At key) ≤ mark_of k (get_or now k Empty)) (sym same)
                 (subst (λ (k : SlotKey). mark_of slot (At key) ≤ mark_of slot k) (sym own) (omega arith))
             | inr other ↦
-                let below : j < length keys = omega (arith, lt, long) in
-                let there : mark ≤ node nodes (length keys + j) = least (length keys + j) (omega arith) (omega (arith, below)) (λ e. other (omega (arith, e))) in
-                let is : node nodes (length keys + j) ≡ mark_of j (get_or now j Empty) = leaves j below ∙ ap (mark_of j) (sym (get_or-set_other keys slot j (At key) Empty other)) in
+                let there : mark ≤ mark_of j (get_or keys j Empty) = least j (omega (arith, lt, long)) other in
+                let is : mark_of j (get_or keys j Empty) ≡ mark_of j (get_or now j Empty) = ap (mark_of j) (sym (get_or-set_other keys slot j (At key) Empty other)) in
                 omega (arith, there, is, before)
           ]),
     )

@@ -6,7 +6,8 @@ use Rattle.std.proofs.lemmas.List.Elements.{All-from_get_or}
 use Rattle.tournament_tree.specs.declared.slot_key.SlotKey.{SlotKey}
 use Rattle.tournament_tree.specs.declared.slot_key.SlotKey.TheVariants.{Empty, Start, At}
 use Rattle.tournament_tree.specs.Least.{IsLeastOf, NotBefore, from_time, rank}
-use Rattle.tournament_tree.specs.Nodes.{HasLeaves, IsSettled, IsSmall, mark_of, most, node, nothing}
+use Rattle.tournament_tree.specs.Nodes.{HasLeaves, IsSettled, IsSmall, IsTelling, highest, mark_of, most, node, nothing, scale, short_of, whole}
+use Rattle.tournament_tree.proofs.Short.{less_mark, same_mark, whole_less}
 
 module _ (slots : ℕ) (nodes : List ℕ) (settled : (q : ℕ) → 1 ≤ q → q < slots → IsSettled nodes q) where
   up_root : (fuel q : ℕ) → q ≤ fuel → 1 ≤ q → q < 2 * slots → node nodes 1 ≤ node nodes q
@@ -93,25 +94,36 @@ least_of keys i here lt few is up =
           subst (NotBefore (rank here)) (sym (get_or-drop (i + 1) keys j Empty)) (key_later (rank here) i ((i + 1) + j) (get_or keys ((i + 1) + j) Empty) (up ((i + 1) + j) (omega (arith, ltj, long))) (omega (arith, ltj, long, few))));
     }
 
-module _ (keys : List SlotKey) (nodes : List ℕ) (some : 0 < length keys) (few : length keys ≤ most)
-    (small : (i : ℕ) → i < length keys → IsSmall (get_or keys i Empty)) (leaves : HasLeaves nodes keys)
-    (settled : (q : ℕ) → 1 ≤ q → q < length keys → IsSettled nodes q) where
-  up_leaf : (i : ℕ) → i < length keys → node nodes 1 ≤ mark_of i (get_or keys i Empty)
+-- what all slots have where the least whole mark is that of nothing
+pub none_by : (keys : List SlotKey) (m : ℕ) → length keys ≤ most → ((i : ℕ) → i < length keys → IsSmall (get_or keys i Empty))
+    → ((i : ℕ) → i < length keys → m ≤ mark_of i (get_or keys i Empty)) → m ≡ nothing * most → All (λ next. next ≡ Empty) keys
+none_by keys m few small up e = All-from_get_or (λ next. next ≡ Empty) keys Empty (λ i lt. key_none m i (get_or keys i Empty) (up i lt) e (omega (arith, lt, few)) (small i lt))
+
+-- the slot of the least whole mark
+pub least_by : (keys : List SlotKey) (m i : ℕ) → length keys ≤ most → i < length keys → m ≡ mark_of i (get_or keys i Empty) → m ≢ nothing * most
+    → ((j : ℕ) → j < length keys → m ≤ mark_of j (get_or keys j Empty)) → (i ≡ m % most) × ((here : Option ℕ) × IsLeastOf keys i here)
+least_by keys m i few lt is ne low =
+    let key = has_key m i (get_or keys i Empty) is ne in
+    let here : Option ℕ = key.0 in
+    let whole : m ≡ rank here * most + i = is ∙ ap (mark_of i) key.1 ∙ mark_from i here in
+    let up : (j : ℕ) → j < length keys → rank here * most + i ≤ mark_of j (get_or keys j Empty) = λ j ltj. subst (λ (n : ℕ). n ≤ mark_of j (get_or keys j Empty)) whole (low j ltj) in
+    (omega (arith, whole, lt, few), (here, least_of keys i here lt few key.1 up))
+
+module _ (keys : List SlotKey) (base : ℕ) (nodes : List ℕ) (some : 0 < length keys) (few : length keys ≤ scale) (low : base ≤ highest)
+    (leaves : HasLeaves base nodes keys) (settled : (q : ℕ) → 1 ≤ q → q < length keys → IsSettled nodes q) where
+  up_leaf : (i : ℕ) → i < length keys → node nodes 1 ≤ short_of base i (get_or keys i Empty)
   up_leaf i lt = subst (λ (m : ℕ). node nodes 1 ≤ m) (leaves i lt) (up_root (length keys) nodes settled (length keys + i) (length keys + i) (omega arith) (omega (arith, some)) (omega (arith, lt)))
 
-  pub no_least : node nodes 1 ≡ nothing * most → All (λ next. next ≡ Empty) keys
-  no_least e = All-from_get_or (λ next. next ≡ Empty) keys Empty (λ i lt. key_none (node nodes 1) i (get_or keys i Empty) (up_leaf i lt) e (omega (arith, lt, few)) (small i lt))
-
-  pub least_at : node nodes 1 ≢ nothing * most → (node nodes 1 % most < length keys) × ((here : Option ℕ) × IsLeastOf keys (node nodes 1 % most) here)
-  least_at ne =
+  pub least_at : IsTelling (node nodes 1) → (node nodes 1 % scale < length keys) × ((here : Option ℕ) × IsLeastOf keys (node nodes 1 % scale) here)
+  least_at telling =
+      let m : ℕ = node nodes 1 in
       let leaf = is_leaf (length keys) nodes settled (2 * length keys) 1 (omega arith) (omega arith) (omega (arith, some)) in
       let i : ℕ = leaf.0 in
       let lt : i < length keys = leaf.1.0 in
-      let is : node nodes 1 ≡ mark_of i (get_or keys i Empty) = leaf.1.1 ∙ leaves i lt in
-      let key = has_key (node nodes 1) i (get_or keys i Empty) is ne in
-      let here : Option ℕ = key.0 in
-      let whole : node nodes 1 ≡ rank here * most + i = is ∙ ap (mark_of i) key.1 ∙ mark_from i here in
-      let slot : i ≡ node nodes 1 % most = omega (arith, whole, lt, few) in
-      let up : (j : ℕ) → j < length keys → rank here * most + i ≤ mark_of j (get_or keys j Empty) = λ j ltj. subst (λ (m : ℕ). m ≤ mark_of j (get_or keys j Empty)) whole (up_leaf j ltj) in
+      let is : m ≡ short_of base i (get_or keys i Empty) = leaf.1.1 ∙ leaves i lt in
+      let same = same_mark base i (get_or keys i Empty) m (omega (arith, lt, few)) telling is in
+      let up : (j : ℕ) → j < length keys → whole base m ≤ mark_of j (get_or keys j Empty) = λ j ltj. less_mark base j (get_or keys j Empty) m low (omega (arith, ltj, few)) telling (up_leaf j ltj) in
+      let some_there : whole base m ≢ nothing * most = λ e. whole_less base m low telling e in
+      let least = least_by keys (whole base m) i (omega (arith, few)) lt same.1 some_there up in
       let P : ℕ → Type 0 = λ s. (s < length keys) × ((h : Option ℕ) × IsLeastOf keys s h) in
-      subst P slot (lt, (here, least_of keys i here lt few key.1 up))
+      subst P same.0 (lt, least.1)

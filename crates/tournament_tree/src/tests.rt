@@ -1,6 +1,6 @@
 //! Slots whose keys change.
 
-ghost use Rattle.std.specs.Prelude.{◌≡◌, length};
+ghost use Rattle.std.specs.Prelude.{◌≡◌, ◌≤◌, length};
 
 use crate::slot_key::SlotKey;
 use crate::trees::TournamentTree;
@@ -93,5 +93,56 @@ fn keys_up_to_the_least_of_others(rt: HostRuntime) -> Result<(), Fail> {
     ] {
         assert!(rt; up_to(&tree, slot) == most, "{slot}");
     }
+    Ok(())
+}
+
+/// The time of a clock that counts from 1970.
+const NOW: u64 = 1_796_000_000_000_000_000;
+
+/// What a short mark tells apart: 2^54 - 2 times from 2^53 before the first one on.
+const FIRST: u64 = NOW - 9_007_199_254_740_992;
+
+const LAST: u64 = FIRST + 18_014_398_509_481_981;
+
+#[test]
+fn keys_far_from_the_first(rt: HostRuntime) -> Result<(), Fail> {
+    let mut tree = TournamentTree::new(rt.alloc(), 5)?;
+    for (slot, key, least, before) in [
+        (1, NOW, 1, NOW),
+        (3, LAST, 1, NOW),
+        (1, LAST + 1, 3, LAST),
+        (3, LAST + 2, 1, LAST + 1),
+        (1, LAST + 2, 1, LAST + 2),
+        (4, MOST, 1, LAST + 2),
+        (2, FIRST, 2, FIRST),
+        (0, FIRST - 1, 0, FIRST),
+        (2, FIRST - 1, 0, FIRST - 1),
+        (2, FIRST - 2, 2, FIRST - 2),
+    ] {
+        put(&mut tree, slot, SlotKey::At(key));
+        assert!(rt; tree.least() == Some(least), "{slot} {key}");
+        assert!(rt; up_to(&tree, 0) == Some(before), "{slot} {key}");
+    }
+    Ok(())
+}
+
+fn least_of_many(rt: &HostRuntime, count: u32) -> Result<[Option<usize>; 3], Fail>
+    requires { 1024 ≤ count }
+{
+    let mut tree = TournamentTree::new(rt.alloc(), count)?;
+    tree.set(1023, SlotKey::At(9));
+    tree.set(700, SlotKey::At(9));
+    let equal = tree.least();
+    tree.set(3, SlotKey::At(8));
+    let less = tree.least();
+    tree.set(3, SlotKey::At(10));
+    Ok([equal, less, tree.least()])
+}
+
+#[test]
+fn as_many_slots_as_nodes_are_for_and_more(rt: HostRuntime) -> Result<(), Fail> {
+    let wanted = [Some(700), Some(3), Some(700)];
+    assert!(rt; least_of_many(&rt, 1024)? == wanted);
+    assert!(rt; least_of_many(&rt, 1025)? == wanted);
     Ok(())
 }

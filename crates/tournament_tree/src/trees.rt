@@ -1,25 +1,27 @@
-ghost use Rattle.std.specs.Prelude.{◌≡◌, ◌≢◌, ℕ, ◌+◌, ◌*◌, ◌/◌, ◌<◌, ◌≤◌, length, take, replicate, slice_set, Some, IfOk, IfSome, if◌then◌else◌};
+ghost use Rattle.std.specs.Prelude.{◌≡◌, ◌≢◌, ℕ, ◌*◌, ◌/◌, ◌<◌, ◌≤◌, length, replicate, slice_index_or, slice_set, Some, IfOk, IfSome};
 ghost use Rattle.tournament_tree.specs.Least.{IsLeastAt};
-ghost use Rattle.tournament_tree.specs.Nodes.{AllBut, HasLeaves, IsSettled, IsSmall, mark_of, most, node, nothing};
+ghost use Rattle.tournament_tree.specs.Nodes.{AllBut, IsSettled, mark_of, most, node, nothing, scale};
 
+use crate::marks::{
+    MOST, NOTHING, SCALE, TOP, base_with, is_telling, key_before, least_mark, short_of, whole,
+};
 use crate::slot_key::SlotKey;
 use std::alloc::{AllocError, Global};
 use std::marker::Model;
 
-/// A number that all slots stand below.
-const MOST: u128 = 4_294_967_296;
-
-/// The leaf of an empty slot, greater than those of all keys.
-const NOTHING: u128 = 18_446_744_073_709_551_617 * 4_294_967_296;
-
 /// A tournament tree over slots with keys, which tells which of them has the least. A contract sees it as
 /// the list of its keys.
+///
+/// Where the least key is more than 2^53 (in nanoseconds 104 days) from the first one that was set, or where there are more than
+/// 1,024 slots, it looks at all keys instead of one for each doubling of their number.
 #[derive(Drop)]
 pub struct TournamentTree {
     keys: Vec<SlotKey>,
-    // The leaves, one for each slot, stand after as many other nodes. The node at place p is the lesser of those at 2 p and
-    // 2 p + 1, so that the least of all stands at place 1.
-    nodes: Vec<u128>,
+    // From where on the nodes count keys, once a slot had one.
+    base: Option<u64>,
+    // Short marks, if they have room for the slots. The leaves, one for each slot, stand after as many other nodes. The node at place p
+    // is the lesser of those at 2 p and 2 p + 1, so that the least of all stands at place 1.
+    nodes: Vec<u64>,
 }
 
 impl Model for TournamentTree {
@@ -34,23 +36,10 @@ impl Model for TournamentTree {
     ghost invariant = { IsTree };
 }
 
-/// The leaf of a slot, by which slots are compared: lesser keys come first, and slots of one key in their order.
-fn mark_of(slot: usize, key: SlotKey) -> u128
-    requires { slot < most }
-    ensures value { result ≡ mark_of slot key }
-    ensures small { IsSmall key }
-{
-    match key {
-        SlotKey::Empty => NOTHING,
-        SlotKey::Start => slot as u128,
-        SlotKey::At(key) => (u128::from(key) + 1) * MOST + slot as u128,
-    }
-}
-
 /// Brings the nodes above a place up to date.
-fn settle(nodes: &mut [u128], slots: usize, place: usize)
+fn settle(nodes: &mut [u64], slots: usize, place: usize)
     requires size { length nodes.old ≡ 2 * slots }
-    requires small { slots ≤ most }
+    requires small { slots ≤ scale }
     requires inside { (slots ≤ place) × (place < 2 * slots) }
     requires but { AllBut slots nodes.old (place / 2) }
     ensures settled { (q : ℕ) → 1 ≤ q → q < slots → IsSettled nodes.new q }
@@ -65,16 +54,15 @@ fn settle(nodes: &mut [u128], slots: usize, place: usize)
 }
 
 /// The least of all leaves but one.
-fn least_but(nodes: &[u128], slots: usize, place: usize) -> u128
+fn least_but(nodes: &[u64], slots: usize, place: usize) -> u64
     requires size { length nodes.now ≡ 2 * slots }
-    requires small { slots ≤ most }
+    requires small { slots ≤ scale }
     requires inside { (slots ≤ place) × (place < 2 * slots) }
     requires settled { (q : ℕ) → 1 ≤ q → q < slots → IsSettled nodes.now q }
-    ensures least { (q : ℕ) → slots ≤ q → q < 2 * slots → q ≢ place → result ≤ node nodes.now q }
-    ensures most { result ≤ nothing * most }
+    ensures { (q : ℕ) → slots ≤ q → q < 2 * slots → q ≢ place → result ≤ node nodes.now q }
 {
     let mut at = place;
-    let mut least = NOTHING;
+    let mut least = TOP * SCALE;
     while at > 1 {
         let beside = if at % 2 == 0 { at + 1 } else { at - 1 };
         least = least.min(nodes[beside]);
@@ -83,27 +71,23 @@ fn least_but(nodes: &[u128], slots: usize, place: usize) -> u128
     least
 }
 
-/// The greatest key with which a slot's leaf is less than this one.
-fn key_before(slot: usize, mark: u128) -> Option<u64>
-    requires slot { slot < most }
-    requires mark { mark ≤ nothing * most }
-    ensures { IfSome result (λ key. mark_of slot (SlotKey.At key) < mark) }
-{
-    let first = MOST + slot as u128;
-    if mark <= first {
-        return None;
-    }
-    Some(((mark - first - 1) / MOST) as u64)
-}
-
 impl TournamentTree {
     /// So many empty slots.
     pub fn new(alloc: Global, slots: u32) -> Result<TournamentTree, AllocError>
         ensures { IfOk result (λ tree. tree ≡ replicate slots SlotKey.Empty) }
     {
         let keys = vec![in alloc; SlotKey::Empty; slots as usize]?;
-        let nodes = vec![in alloc; NOTHING; 2 * slots as usize]?;
-        Ok(TournamentTree { keys, nodes })
+        let places = if u64::from(slots) <= SCALE {
+            2 * slots as usize
+        } else {
+            0
+        };
+        let nodes = vec![in alloc; TOP * SCALE; places]?;
+        Ok(TournamentTree {
+            keys,
+            base: None,
+            nodes,
+        })
     }
 
     /// Gives a slot another key, or empties it. Where that changes nothing it takes no steps.
@@ -116,7 +100,12 @@ impl TournamentTree {
         }
         let slots = self.keys.len();
         self.keys[slot] = key;
-        self.nodes[slots + slot] = mark_of(slot, key);
+        if self.nodes.is_empty() {
+            return;
+        }
+        let base = base_with(self.base, key);
+        self.base = base;
+        self.nodes[slots + slot] = short_of(base.unwrap_or(0), slot, key);
         settle(self.nodes.as_mut_slice(), slots, slots + slot);
     }
 
@@ -125,14 +114,26 @@ impl TournamentTree {
         ensures least { IsLeastAt self.now result }
         ensures inside { IfSome result (λ i. i < length self.now) }
     {
-        if self.nodes.is_empty() {
-            return None;
+        if !self.nodes.is_empty() {
+            let first = self.nodes[1];
+            if is_telling(first) {
+                return Some((first % SCALE) as usize);
+            }
         }
-        let first = self.nodes[1];
-        if first == NOTHING {
+        self.least_of_all()
+    }
+
+    /// The same, by a look at all keys.
+    #[inline(never)]
+    fn least_of_all(&self) -> Option<usize>
+        ensures least { IsLeastAt self.now result }
+        ensures inside { IfSome result (λ i. i < length self.now) }
+    {
+        let least = least_mark(&self.keys, None);
+        if least == NOTHING {
             None
         } else {
-            Some((first % MOST) as usize)
+            Some((least % MOST) as usize)
         }
     }
 
@@ -142,7 +143,23 @@ impl TournamentTree {
         requires { slot < length self.now }
         ensures { IfSome result (λ most. (key : ℕ) → key ≤ most → IsLeastAt (slice_set self.now slot (SlotKey.At key)) (Some slot)) }
     {
+        key_before(slot, self.least_beside(slot))
+    }
+
+    /// The least of the whole marks of the other slots.
+    fn least_beside(&self, slot: usize) -> u128
+        requires { slot < length self.now }
+        ensures least { (i : ℕ) → i < length self.now → i ≢ slot → result ≤ mark_of i (slice_index_or self.now i SlotKey.Empty) }
+        ensures few { length self.now ≤ most }
+        ensures most { result ≤ nothing * most }
+    {
         let slots = self.keys.len();
-        key_before(slot, least_but(self.nodes.as_slice(), slots, slots + slot))
+        if !self.nodes.is_empty() {
+            let least = least_but(self.nodes.as_slice(), slots, slots + slot);
+            if is_telling(least) {
+                return whole(self.base.unwrap_or(0), least);
+            }
+        }
+        least_mark(&self.keys, Some(slot))
     }
 }

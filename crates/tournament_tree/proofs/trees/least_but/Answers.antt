@@ -9,7 +9,6 @@ loop-at-init c =
     record {
       some = omega (arith, inside.0, inside.1);
       inside = inside.1;
-      most = omega arith;
       below = none_below c.args.slots c.args.nodes.now c.args.place _ inside.0;
     }
 
@@ -25,13 +24,12 @@ loop-at-preserved c =
     record {
       some = omega (arith, c.loop-at-test.true);
       inside = omega (arith, before.inside);
-      most = omega (arith, c.min-least.ensures, before.most);
       below = subst (IsLeastBelow c.args.slots c.args.nodes.now c.args.place (at / 2)) (sym c.min-least.ensures)
           (more_below c.args.slots c.args.nodes.now c.args.place at c.loop-at.least beside c.requires.settled c.loop-at-test.true before.inside around before.below);
     }
 
-pub returns-clause-least : goal.returns-clause-least
-returns-clause-least c = λ q from lt other.
+pub returns : goal.returns
+returns c = λ q from lt other.
     let before = c.loop-at.invariant in
     let one : c.loop-at.at ≡ 1 = omega (arith, before.some, c.loop-at-test.false) in
     let some : 1 ≤ q = omega (arith, from, lt) in

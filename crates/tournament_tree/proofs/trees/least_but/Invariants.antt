@@ -1,5 +1,4 @@
 use Rattle.std.proofs.Common.{◌*◌, ◌<◌, ◌≤◌}
-use Rattle.tournament_tree.specs.Nodes.{most, nothing}
 use Rattle.tournament_tree.proofs.Beside.{IsLeastBelow}
 use Rattle.tournament_tree.proofs.trees.least_but.Given as goal
 
@@ -7,7 +6,6 @@ abbrev pub invariant-loop-at : goal.invariant-loop-at
 invariant-loop-at l = record {
   some : 1 ≤ l.at;
   inside : l.at < 2 * l.slots;
-  most : l.least ≤ nothing * most;
   below : IsLeastBelow l.slots l.nodes l.place l.at l.least;
 }
 

@@ -1,37 +1,27 @@
-use Rattle.std.proofs.Common.{◌≡◌, ℕ, ◌%◌, ◌<◌, List, length, Option, sym, ap, subst, ◌∙◌, arith}
+use Rattle.std.proofs.Common.{◌≡◌, ℕ, ◌%◌, ◌<◌, List, length, Some, unwrap_or, sym, ap, subst, arith}
 use Rattle.std.proofs.lemmas.List.{get_or_read}
-use Rattle.std.specs.List.{All}
+use Rattle.tournament_tree.specs.Least.{IsLeastAt}
+use Rattle.tournament_tree.specs.Nodes.{IsTelling, nexts_in, node, scale}
 use Rattle.tournament_tree.specs.declared.slot_key.SlotKey.{SlotKey}
-use Rattle.tournament_tree.specs.declared.slot_key.SlotKey.TheVariants.{Empty}
-use Rattle.tournament_tree.specs.Least.{IsLeastOf}
-use Rattle.tournament_tree.specs.Nodes.{most, nexts_in, node}
-use Rattle.tournament_tree.proofs.Root.{no_least, least_at}
+use Rattle.tournament_tree.proofs.Root.{least_at}
 use Rattle.tournament_tree.proofs.trees.TournamentTree.least.Goals as goal
 
-pub returns-then-first-eq-NOTHING-clause-least : goal.returns-then-first-eq-NOTHING-clause-least
-returns-then-first-eq-NOTHING-clause-least c =
+found : (c : goal.Then-is_telling) → (c.index-first.result.now % scale < length (nexts_in c.self.inside)) × IsLeastAt (nexts_in c.self.inside) (Some (c.index-first.result.now % scale))
+found c =
     let t = c.self.inside in
-    let v = c.self.invariant in
-    let some : 0 < length (nexts_in t) = grind (arith, v.size, c.if-is_empty.false, c.is_empty.ensures) in
+    let keys : List SlotKey = nexts_in t in
+    let full : 0 < length t.nodes.items = grind (arith, c.is_empty.ensures, c.if-not-is_empty.true, t.nodes.ok.0) in
+    let v = c.self.invariant.nodes full in
+    let some : 0 < length keys = omega (arith, full, v.size) in
     let first : c.index-first.result.now ≡ node t.nodes.items 1 = get_or_read t.nodes.items 1 c.index-first.result.now (omega (arith, some, v.size)) c.index-first.ensures 0 in
-    subst (All (λ next. next ≡ Empty)) c.self.view_is (no_least (nexts_in t) t.nodes.items some v.few v.small v.leaves v.settled (sym first ∙ c.if-first-eq-NOTHING.true))
+    let telling : IsTelling c.index-first.result.now = c.is_telling.ensures c.if-is_telling.true in
+    let P : ℕ → Type 0 = λ m. (m % scale < length keys) × IsLeastAt keys (Some (m % scale)) in
+    subst P (sym first) (least_at keys (unwrap_or t.base 0) t.nodes.items some v.few v.base v.leaves v.settled (subst IsTelling first telling))
 
-pub returns-else-first-eq-NOTHING-clause-least : goal.returns-else-first-eq-NOTHING-clause-least
-returns-else-first-eq-NOTHING-clause-least c =
-    let t = c.self.inside in
-    let v = c.self.invariant in
-    let some : 0 < length (nexts_in t) = grind (arith, v.size, c.if-is_empty.false, c.is_empty.ensures) in
-    let first : c.index-first.result.now ≡ node t.nodes.items 1 = get_or_read t.nodes.items 1 c.index-first.result.now (omega (arith, some, v.size)) c.index-first.ensures 0 in
-    let least = least_at (nexts_in t) t.nodes.items some v.few v.small v.leaves v.settled (λ e. c.if-first-eq-NOTHING.false (first ∙ e)) in
-    let P : ℕ → Type 0 = λ m. (here : Option ℕ) × IsLeastOf (nexts_in t) (m % most) here in
-    let Q : List SlotKey → Type 0 = λ keys. (here : Option ℕ) × IsLeastOf keys (c.index-first.result.now % most) here in
-    subst Q c.self.view_is (subst P (sym first) least.1)
+pub returns-then-is_telling-clause-least : goal.returns-then-is_telling-clause-least
+returns-then-is_telling-clause-least c =
+    let P : List SlotKey → Type 0 = λ keys. IsLeastAt keys (Some (c.index-first.result.now % scale)) in
+    subst P c.self.view_is (found c).1
 
-pub returns-else-first-eq-NOTHING-clause-inside : goal.returns-else-first-eq-NOTHING-clause-inside
-returns-else-first-eq-NOTHING-clause-inside c =
-    let t = c.self.inside in
-    let v = c.self.invariant in
-    let some : 0 < length (nexts_in t) = grind (arith, v.size, c.if-is_empty.false, c.is_empty.ensures) in
-    let first : c.index-first.result.now ≡ node t.nodes.items 1 = get_or_read t.nodes.items 1 c.index-first.result.now (omega (arith, some, v.size)) c.index-first.ensures 0 in
-    let least = least_at (nexts_in t) t.nodes.items some v.few v.small v.leaves v.settled (λ e. c.if-first-eq-NOTHING.false (first ∙ e)) in
-    omega (arith, least.0, ap (λ (m : ℕ). m % most) first, ap length c.self.view_is)
+pub returns-then-is_telling-clause-inside : goal.returns-then-is_telling-clause-inside
+returns-then-is_telling-clause-inside c = let h = (found c).0 in omega (arith, h, ap length c.self.view_is)
