@@ -30,6 +30,7 @@ fn print_front<O: Sink>(
     ensures cause { HasCause (O.faults out.old) (O.faults out.new) result }
     ensures dropped { IfOk result (λ _. IsFrontDropped count lane.old lane.new) }
     ensures cpu { lane.new.cpu ≡ lane.old.cpu }
+    ensures layout { lane.new.layout ≡ lane.old.layout }
     ensures part { lane.new.part ≡ lane.old.part }
 {
     put_front(lane, count, last, pending, out)?;
@@ -82,7 +83,7 @@ fn put_round<O: Sink>(
 /// after it in its lane, costs a step or two for each doubling of their number. `moved` has a dirty bit for each lane: a lane
 /// that is clean after the call is as it was before, no bit is cleared, and only that of a lane of which a line was printed is
 /// set anew. After `Failed` the sink has a prefix of the lines' text, and the lanes, which are still those of their
-/// processors, keep no longer what was put: they are not to be used again.
+/// processors and have their layouts, keep no longer what was put: they are not to be used again.
 pub fn print_round<O: Sink>(
     horizon: &Horizon,
     lanes: &mut [Lane],

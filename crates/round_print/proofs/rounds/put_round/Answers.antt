@@ -8,7 +8,7 @@ use Rattle.page_pool.specs.Keeping.{printing}
 use Rattle.page_pool.specs.declared.lane.Lane.{Lane}
 use Rattle.page_pool.proofs.Keeping.{lane_still}
 use Rattle.time_merge.specs.declared.horizons.Horizon.{Horizon}
-use Rattle.time_merge.proofs.Readying.{set_parts}
+use Rattle.time_merge.proofs.Readying.{same_map, set_parts}
 use Rattle.round_print.specs.Prints.{CpuLine, filled, filled_text, front_of, head_kept, last_of, printed, text_of}
 use Rattle.round_print.specs.Rounds.{IsFrontDropped, IsRun}
 use Rattle.round_print.proofs.Printing.{print_none}
@@ -31,6 +31,7 @@ loop-i-init g c = record {
   name = refl;
   faults = refl;
   parts = refl;
+  layouts = refl;
   rising = c.requires.rising;
   heads = c.requires.heads;
   slots = refl;
@@ -89,6 +90,7 @@ loop-i-preserved g c =
       name = c.in_ok-print_front.ensures.name ∙ c.loop-i.invariant.name;
       faults = c.in_ok-print_front.ensures.cause.kept ∙ c.loop-i.invariant.faults;
       parts = set_parts lanes i c.index-lanes-i-in-Some.result now lt c.in_ok-print_front.ensures.cpu c.in_ok-print_front.ensures.part ∙ c.loop-i.invariant.parts;
+      layouts = same_map (λ (a : Lane). a.layout) lanes i c.index-lanes-i-in-Some.result now lt c.in_ok-print_front.ensures.layout ∙ c.loop-i.invariant.layouts;
       rising = record { cpus = step.rise; keys = step.rises };
       heads = heads_on c.loop-i.heads c.set.new.self lanes i now c.head_kept.result c.set.ensures key c.loop-i.invariant.heads;
       slots = ap length c.set.ensures ∙ length-set c.loop-i.heads i c.head_kept.result ∙ c.loop-i.invariant.slots;
@@ -139,11 +141,12 @@ returns-clause-round g c = record {
 }
 
 pub returns-clause-slots : goal.returns-clause-slots
-returns-clause-slots g c = record { parts = c.loop-i.invariant.parts; heads = c.loop-i.invariant.slots; marks = c.loop-i.auto.moved }
+returns-clause-slots g c = record { parts = c.loop-i.invariant.parts; layouts = c.loop-i.invariant.layouts; heads = c.loop-i.invariant.slots; marks = c.loop-i.auto.moved }
 
 pub returns-in_err-print_front-clause-slots : goal.returns-in_err-print_front-clause-slots
 returns-in_err-print_front-clause-slots g c = record {
   parts = set_parts c.loop-i.lanes c.in-Some.i c.index-lanes-i-in-Some.result c.print_front.new.lane c.in-Some.ensures.inside c.in_err-print_front.ensures.cpu c.in_err-print_front.ensures.part ∙ c.loop-i.invariant.parts;
+  layouts = same_map (λ (a : Lane). a.layout) c.loop-i.lanes c.in-Some.i c.index-lanes-i-in-Some.result c.print_front.new.lane c.in-Some.ensures.inside c.in_err-print_front.ensures.layout ∙ c.loop-i.invariant.layouts;
   heads = c.loop-i.invariant.slots;
   marks = c.loop-i.auto.moved;
 }

@@ -16,6 +16,7 @@ invariant-loop-i g l = record {
   name : g.O.Sink.name l.out ≡ g.O.Sink.name l.fn.out;
   faults : g.O.Sink.faults l.out ≡ g.O.Sink.faults l.fn.out;
   parts : parts_of l.lanes ≡ parts_of l.fn.lanes;
+  layouts : map (λ (lane : Lane). lane.layout) l.lanes ≡ map (λ (lane : Lane). lane.layout) l.fn.lanes;
   rising : AreRising l.lanes;
   heads : l.heads ≡ map head_kept l.lanes;
   slots : length l.heads ≡ length l.fn.heads;
