@@ -1,21 +1,8 @@
-use Rattle.std.proofs.Common.{◌≡◌, refl, arith, ℕ, List, [], get_or, Some, None, ap, subst, ◌∙◌}
-use Rattle.std.specs.List.{All}
-use Rattle.trace_base.specs.declared.layout.Layout.{Layout}
-use Rattle.trace_base.proofs.Layouts.{carried}
-use Rattle.subpage.specs.Arrangement.{Keyed}
-use Rattle.page_pool.specs.declared.lane.Lane.{Lane}
-use Rattle.event_cursor.specs.Keys.{first_of}
-use Rattle.event_cursor.specs.Standing.{Stands, keyed_held}
+use Rattle.std.proofs.Common.{refl, arith, [], Some, ap, ◌∙◌}
 use Rattle.event_cursor.proofs.Told.{told_all, told_map}
 use Rattle.time_merge.specs.LaneNexts.{cut_at}
-use Rattle.time_merge.specs.LaneRows.{IsReady, rows_of, to_come}
-use Rattle.time_merge.specs.Loading.{LoadsLanes}
-use Rattle.time_merge.specs.Nexts.{IsNextLane}
-use Rattle.time_merge.specs.Rows.{least_cut}
-use Rattle.time_merge.specs.Skipping.{IsLaneUsedUp}
 use Rattle.time_merge.proofs.UnusedLanes.{unused_fresh, unused_layouts}
 use Rattle.time_merge.proofs.PartReads.{going_reads, reads_inside}
-use Rattle.item_pass.specs.Gathering.{and_item}
 use Rattle.item_pass.proofs.PassSteps.{a_lane, begins, loaded, goes_on, all_passed, no_cut, one_cut, using_fewer, using_parts, using_unread, using_layouts}
 use Rattle.item_pass.proofs.passing.pass_lanes.Goals as goal
 

@@ -1,4 +1,4 @@
-use Rattle.std.proofs.Common.{List, get_or, subst, ap, arith}
+use Rattle.std.proofs.Common.{List, get_or, subst, arith}
 use Rattle.std.specs.List.{All}
 use Rattle.page_pool.specs.declared.lane.Lane.{Lane}
 use Rattle.time_merge.specs.LaneRows.{HasLayout}
