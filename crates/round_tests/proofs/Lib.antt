@@ -1,2 +1,3 @@
 pub mod FilledLanes
+pub mod OpenedLanes
 pub mod RisingParts

@@ -3,8 +3,10 @@
 mod gates;
 
 ghost use Rattle.std.specs.Prelude.{◌≡◌, ◌+◌, ◌<◌, ◌%◌, ◌==◌, if◌then◌else◌, [], ◌∷◌, All, None, length};
+ghost use Rattle.trace_base.specs.declared.layout.Layout.{Layout};
 ghost use Rattle.line_holes.specs.Holes.{line_text};
 ghost use Rattle.subpage.specs.ItemData.{item_time};
+ghost use Rattle.time_merge.specs.LaneRows.{HasLayout};
 
 use super::times::time_of;
 use cpu_workers::{Workers, format_lanes};
@@ -56,7 +58,9 @@ fn file_of(alloc: Global, pages: &[Page<'_>]) -> Result<MemFile, AllocError> {
 }
 
 // Loads the sub-buffer of this number into a lane that is fresh.
-fn open_lane(file: &mut MemFile, lane: &mut Lane, number: u32) {
+fn open_lane(file: &mut MemFile, lane: &mut Lane, number: u32)
+    ensures layout { lane.new.layout ≡ lane.old.layout }
+{
     if lane.cursor.state == LaneState::Fresh {
         lane.cpu = number;
         lane.part = Part {
@@ -67,7 +71,9 @@ fn open_lane(file: &mut MemFile, lane: &mut Lane, number: u32) {
     }
 }
 
-fn open_lanes(file: &mut MemFile, lanes: &mut [Lane]) {
+fn open_lanes(file: &mut MemFile, lanes: &mut [Lane])
+    ensures layouts { (layout : Layout) → All (HasLayout layout) lanes.old → All (HasLayout layout) lanes.new }
+{
     let mut number = 0_u32;
     for i in 0..lanes.len() {
         open_lane(file, &mut lanes[i], number);

@@ -1,0 +1,11 @@
+use Rattle.round_tests.proofs.OpenedLanes.{new_layouts, one_page, page_kept}
+use Rattle.round_tests.proofs.tests.workers.gates.entries.Goals as goal
+
+pub format_lanes-requires-clause-page : goal.format_lanes-requires-clause-page
+format_lanes-requires-clause-page g c = λ lifetimes live.
+    one_page _ _ (c.open_lanes.ensures.layouts _ (new_layouts _ _ _ _ c.lanes-lanes.ensures.value c.in_ok-pool.ensures.lanes))
+
+pub format_lanes-requires-2-clause-page : goal.format_lanes-requires-2-clause-page
+format_lanes-requires-2-clause-page g c = λ lifetimes live.
+    page_kept _ _ _ _ c.format_lanes.ensures.count c.format_lanes.ensures.each
+    (one_page _ _ (c.open_lanes.ensures.layouts _ (new_layouts _ _ _ _ c.lanes-lanes.ensures.value c.in_ok-pool.ensures.lanes)))
