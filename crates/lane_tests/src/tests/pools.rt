@@ -105,9 +105,9 @@ fn drops_a_front(region: &mut Region) -> bool {
     keeps(region, &[(9, b"defghij")]) && keep(region, 9, b"k") == Put::Full
 }
 
-fn keeps_146_empty_lines(region: &mut Region) -> bool {
+fn keeps_64_empty_lines(region: &mut Region) -> bool {
     region.clear();
-    for _ in 0..146 {
+    for _ in 0..64 {
         if keep(region, 1, b"") != Put::Kept {
             return false;
         }
@@ -121,6 +121,6 @@ fn lines_are_kept_until_they_are_dropped(rt: HostRuntime) -> Result<(), Fail> {
     let lanes = pool.lanes();
     let region = &mut lanes[0].region;
     let is_kept = keeps_what_was_put(region) && drops_a_front(region);
-    assert!(rt; is_kept && keeps_146_empty_lines(region));
+    assert!(rt; is_kept && keeps_64_empty_lines(region));
     Ok(())
 }
