@@ -5,7 +5,7 @@ use Rattle.std.proofs.lemmas.Bool.{cases_Bool}
 use Rattle.subpage.specs.ItemData.{ItemData}
 use Rattle.subpage.specs.Arrangement.{Keyed}
 use Rattle.line_holes.specs.Holes.{LineText}
-use Rattle.page_pool.specs.Lines.{most_lines}
+use Rattle.page_pool.specs.Limits.{most_of}
 use Rattle.page_pool.specs.declared.lane.Lane.{Lane}
 use Rattle.page_pool.specs.Keeping.{forming}
 use Rattle.page_pool.proofs.Keeping.{lane_still}
@@ -23,7 +23,7 @@ module _ (text : ℕ → ItemData → LineText) where
   fill_again before (x ∷ xs) =
       let P : Space × List Keyed → Type 0 = λ r. fill text r.0 r.1 ≡ r in
       let more = with_line (text x.cpu x.item) x.key before in
-      elim (cases_Bool (nat_le most_lines before.used)) as (λ _. P (fill text before (x ∷ xs))) [
+      elim (cases_Bool (nat_le (most_of before.limit) before.used)) as (λ _. P (fill text before (x ∷ xs))) [
         | inl used_up ↦ let left = fill_none text before x xs used_up in subst P (sym left) left
         | inr takes ↦ let on = fill_more text before x xs takes in
             subst P (sym on) (elim (cases_Bool (length (text x.cpu x.item).bytes == 0)) as (λ _. P (fill_on text before x xs)) [

@@ -1,14 +1,14 @@
 -- Lanes that are shared out to workers.
 use Rattle.std.specs.Prelude.{ℕ, ◌+◌, ◌*◌, ◌/◌, ◌%◌, min, max, Bool, not, ◌&&◌, nat_le, if◌then◌else◌, List, count_by, is_some}
 use Rattle.std.specs.List.{zip}
-use Rattle.page_pool.specs.Lines.{most_lines}
+use Rattle.page_pool.specs.Limits.{most_of}
 use Rattle.page_pool.specs.declared.lane.Lane.{Lane}
 use Rattle.event_cursor.specs.Keys.{first_of}
 use Rattle.event_cursor.specs.Standing.{keyed_held}
 
 -- whether a lane may form a line: it holds an item, and its region takes lines
 abbrev pub may_form : Lane → Bool
-may_form lane = not (nat_le most_lines lane.region.used) && is_some (first_of (keyed_held lane))
+may_form lane = not (nat_le (most_of lane.region.limit) lane.region.used) && is_some (first_of (keyed_held lane))
 
 -- whether a lane is busy: it is dirty, and may form a line
 abbrev pub is_busy : Lane × Bool → Bool

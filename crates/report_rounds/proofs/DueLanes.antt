@@ -15,7 +15,7 @@ use Rattle.subpage.specs.ItemData.{ItemData}
 use Rattle.subpage.specs.Processor.{bad_of, is_there, list_of, page_count}
 use Rattle.line_holes.specs.Holes.{LineText}
 use Rattle.page_pool.specs.Fresh.{IsFresh}
-use Rattle.page_pool.specs.Lines.{most_lines}
+use Rattle.page_pool.specs.Limits.{most_lines}
 use Rattle.page_pool.specs.declared.cursor.LaneState.{LaneState}
 use Rattle.page_pool.specs.declared.cursor.LaneState.TheVariants.{Fresh, Held, Ended, Malformed}
 use Rattle.page_pool.specs.declared.lane.Lane.{Lane}

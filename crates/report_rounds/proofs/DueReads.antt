@@ -19,7 +19,9 @@ use Rattle.subpage.specs.Cut.{last_key}
 use Rattle.subpage.specs.Processor.{list_of}
 use Rattle.line_holes.specs.Holes.{LineText}
 use Rattle.page_pool.specs.Fresh.{IsFresh}
-use Rattle.page_pool.specs.Lines.{Line, Lines, most_lines}
+use Rattle.page_pool.specs.Lines.{Line, Lines}
+use Rattle.page_pool.specs.Limits.{most_lines}
+use Rattle.page_pool.proofs.Limits.{few_lines}
 use Rattle.page_pool.specs.declared.lane.Lane.{Lane}
 use Rattle.page_pool.proofs.Keeping.{by_both}
 use Rattle.event_cursor.specs.Standing.{Stands, left_of}
@@ -165,7 +167,7 @@ module _ (text : ℕ → ItemData → LineText) (l : Layout) (file : List ℕ) w
         let first_lt : i < length first = omega (arith, mid_lt, going.long) in
         let one : IsReadied (Some file) a b = load.each i d mid_lt in
         let few : length b.region.kept ≤ most_lines =
-        omega (arith, (all i d mid_lt).few.kept, (all i d mid_lt).few.used, ap (λ (r : Lines). length r.kept) one.place.region) in
+        omega (arith, (all i d mid_lt).few.kept, (all i d mid_lt).few.used, few_lines a.region.limit, ap (λ (r : Lines). length r.kept) one.place.region) in
         let has : HasWritten text file whole_lines b =
         lane_written done_lines whole_lines (get_or first i d) a b (start i d first_lt) (going.own i d first_lt) one whole_count in
         let layout : b.layout ≡ l = one.place.layout ∙ (all i d mid_lt).layout_is in

@@ -16,8 +16,8 @@ at_start : (l : Layout) (room : ℕ) (a : Lane) → IsUnused l room a → IsAtSt
 at_start l room a unused = record {
   cursor = unused.fresh;
   layout_is = unused.layout_is;
-  kept = ap (λ (r : Lines). r.kept) unused.region;
-  tidy = subst IsTidy (sym unused.region) (record { used = λ e. refl; free = λ e. refl });
+  kept = ap (λ (r : Lines). r.kept) unused.region.1;
+  tidy = subst IsTidy (sym unused.region.1) (record { used = λ e. refl; free = λ e. refl });
 }
 
 pub unused_start : (l : Layout) (room : ℕ) (lanes : List Lane) → All (IsUnused l room) lanes → All (IsAtStart l) lanes
@@ -25,7 +25,7 @@ unused_start l room lanes all = All-weaker (IsUnused l room) (IsAtStart l) (at_s
 
 pub unused_room : (l : Layout) (room : ℕ) (lanes : List Lane) → All (IsUnused l room) lanes → All (λ (lane : Lane). lane.region.room ≡ room) lanes
 unused_room l room lanes all =
-    All-weaker (IsUnused l room) (λ (lane : Lane). lane.region.room ≡ room) (λ a unused. ap (λ (r : Lines). r.room) unused.region ∙ length-replicate room 0) lanes all
+    All-weaker (IsUnused l room) (λ (lane : Lane). lane.region.room ≡ room) (λ a unused. ap (λ (r : Lines). r.room) unused.region.1 ∙ length-replicate room 0) lanes all
 
 -- regions of so many bytes have room for lines of at most so many
 pub all_room : (text : ℕ → ItemData → LineText) (room : ℕ) (lanes : List Lane) → All (λ (lane : Lane). lane.region.room ≡ room) lanes

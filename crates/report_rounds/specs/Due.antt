@@ -9,7 +9,7 @@ use Rattle.subpage.specs.ItemData.{ItemData}
 use Rattle.subpage.specs.Processor.{is_there, page_count, pages_from, joined, bad_of}
 use Rattle.subpage.specs.Cut.{reached_of}
 use Rattle.line_holes.specs.Holes.{LineText}
-use Rattle.page_pool.specs.Lines.{most_lines}
+use Rattle.page_pool.specs.Limits.{most_lines}
 use Rattle.round_print.specs.Prints.{CpuLine, filled_text}
 use Rattle.report_rounds.specs.Lines.{shown_lines}
 

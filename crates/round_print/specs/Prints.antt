@@ -5,7 +5,8 @@ use Rattle.tournament_tree.specs.declared.slot_key.SlotKey.{SlotKey}
 use Rattle.tournament_tree.specs.declared.slot_key.SlotKey.TheVariants.{Empty, At}
 use Rattle.subpage.specs.Arrangement.{IsRising, by_key}
 use Rattle.line_holes.specs.Holes.{LineText, line_text, hole_time, filled_bytes, along, last_time}
-use Rattle.page_pool.specs.Lines.{Line, Lines, most_lines}
+use Rattle.page_pool.specs.Lines.{Line, Lines}
+use Rattle.page_pool.specs.Limits.{most_of}
 use Rattle.page_pool.specs.declared.lane.Lane.{Lane}
 use Rattle.time_merge.specs.declared.horizons.Horizon.{Horizon}
 use Rattle.time_merge.specs.Horizons.{is_due}
@@ -105,12 +106,13 @@ pub record IsTidy (lines : Lines) : Type 0 where
 -- A region keeps no more lines than were put since all bytes were free, and these are not too many.
 pub record IsFew (lines : Lines) : Type 0 where
   pub kept : length lines.kept ≤ lines.used
-  pub used : lines.used ≤ most_lines
+  pub used : lines.used ≤ most_of lines.limit
 
 -- the first few lines are not kept any more, and the region is tidy
 pub record IsDropped (count : ℕ) (before now : Lines) : Type 0 where
   pub kept : now.kept ≡ drop count before.kept
   pub room : now.room ≡ before.room
+  pub limit : now.limit ≡ before.limit
   pub tidy : IsTidy now
   pub few : IsFew before → IsFew now
 

@@ -27,7 +27,7 @@ pub still_unused : (layout : Layout) (room : ℕ) (lanes : List Lane) (i : ℕ) 
     → lane.region ≡ (get_or lanes i d).region → All (IsUnused layout room) lanes → All (IsUnused layout room) (set lanes i lane)
 still_unused layout room lanes i d lane inside same cursor page region all =
     let was : IsUnused layout room (get_or lanes i d) = All-get_or (IsUnused layout room) lanes i d inside all in
-    All-set (IsUnused layout room) lanes i lane record { layout_is = same ∙ was.layout_is; fresh = subst IsFresh (sym cursor) was.fresh; page = page ∙ was.page; region = region ∙ was.region } all
+    All-set (IsUnused layout room) lanes i lane record { layout_is = same ∙ was.layout_is; fresh = subst IsFresh (sym cursor) was.fresh; page = page ∙ was.page; region = (was.region.0, region ∙ was.region.1) } all
 
 pub all_set : (lanes : List Lane) (parts : List (ℕ × Part)) (i : ℕ) → length lanes ≡ length parts → length parts ≤ i → parts_of (take i lanes) ≡ take i parts → parts_of lanes ≡ parts
 all_set lanes parts i same past so_far =

@@ -105,9 +105,9 @@ fn drops_a_front(region: &mut Region) -> bool {
     keeps(region, &[(9, b"defghij")]) && keep(region, 9, b"k") == Put::Full
 }
 
-fn keeps_64_empty_lines(region: &mut Region) -> bool {
+fn keeps_empty_lines(region: &mut Region, most: u32) -> bool {
     region.clear();
-    for _ in 0..64 {
+    for _ in 0..most {
         if keep(region, 1, b"") != Put::Kept {
             return false;
         }
@@ -121,6 +121,21 @@ fn lines_are_kept_until_they_are_dropped(rt: HostRuntime) -> Result<(), Fail> {
     let lanes = pool.lanes();
     let region = &mut lanes[0].region;
     let is_kept = keeps_what_was_put(region) && drops_a_front(region);
-    assert!(rt; is_kept && keeps_64_empty_lines(region));
+    assert!(rt; is_kept && keeps_empty_lines(region, 146));
+    Ok(())
+}
+
+fn first_keeps(alloc: Global, lanes: u32, most: u32) -> Result<bool, AllocError> {
+    let mut pool = Pool::new(alloc, &layout(), lanes, 10)?;
+    match pool.lanes().first_mut() {
+        Some(lane) => Ok(keeps_empty_lines(&mut lane.region, most)),
+        None => Ok(false),
+    }
+}
+
+#[test]
+fn regions_of_many_lanes_keep_fewer_lines(rt: HostRuntime) -> Result<(), Fail> {
+    assert!(rt; first_keeps(rt.alloc(), 64, 146)?);
+    assert!(rt; first_keeps(rt.alloc(), 65, 64)?);
     Ok(())
 }

@@ -187,11 +187,11 @@ fn items_come_by_key_up_to_the_least_cut(rt: HostRuntime) -> Result<(), Fail> {
     Ok(())
 }
 
-// The sub-buffers of 16 processors, 20 each of 63 events. They follow at like rates.
+// The sub-buffers of 16 processors, 20 each of 145 events. They follow at like rates.
 fn put_like_rates(pages: &mut Vec<Page>) -> Result<(), AllocError> {
     for lane in 0..16_u64 {
         for i in 0..20_u64 {
-            pages.push(events(1 + 1008 * i + lane, 63, 16))?;
+            pages.push(events(1 + 2320 * i + lane, 145, 16))?;
         }
     }
     Ok(())
@@ -537,15 +537,15 @@ fn lines_are_whole_before_a_failed_read_and_a_prefix_before_a_failed_write(
 }
 
 // The bytes that can be written, the sub-buffers that are read, and those that are due. All 21 of the second processor are due.
-// The second of the first one has 306 lines before it: it is due from the 242nd on, after the second one's 18 lines of two
+// The second of the first one has 306 lines before it: it is due from the 160th on, after the second one's 18 lines of two
 // bytes.
 const DUE: &[(u64, u64, u64, End)] = &[
     (0, 2, 1 + 21, Write),
     (1, 2, 1 + 21, Write),
     (2, 3, 1 + 21, Write),
     (36, 22, 1 + 21, Write),
-    (519, 22, 1 + 21, Write),
-    (520, 22, 2 + 21, Write),
+    (355, 22, 1 + 21, Write),
+    (356, 22, 2 + 21, Write),
     (647, 22, 2 + 21, Write),
     (648, 23, 2 + 21, Write),
     (5437, 30, 9 + 21, Write),

@@ -95,20 +95,11 @@ const HOLED_RUNS: Lines = [
 
 const WIDE: Kept = (
     5,
-    "A line of 1,040 bytes, of which 64, as many as a region keeps, are more than what may wait. abcdefghijkl\
-     mnopqrstuvwxyzabcdefghijklmnopqrstuvwxyzabcdefghijklmnopqrstuvwxyzabcdefghijklmnopqrstuvwxyzabcdefghijkl\
-     mnopqrstuvwxyzabcdefghijklmnopqrstuvwxyzabcdefghijklmnopqrstuvwxyzabcdefghijklmnopqrstuvwxyzabcdefghijkl\
-     mnopqrstuvwxyzabcdefghijklmnopqrstuvwxyzabcdefghijklmnopqrstuvwxyzabcdefghijklmnopqrstuvwxyzabcdefghijkl\
-     mnopqrstuvwxyzabcdefghijklmnopqrstuvwxyzabcdefghijklmnopqrstuvwxyzabcdefghijklmnopqrstuvwxyzabcdefghijkl\
-     mnopqrstuvwxyzabcdefghijklmnopqrstuvwxyzabcdefghijklmnopqrstuvwxyzabcdefghijklmnopqrstuvwxyzabcdefghijkl\
-     mnopqrstuvwxyzabcdefghijklmnopqrstuvwxyzabcdefghijklmnopqrstuvwxyzabcdefghijklmnopqrstuvwxyzabcdefghijkl\
-     mnopqrstuvwxyzabcdefghijklmnopqrstuvwxyzabcdefghijklmnopqrstuvwxyzabcdefghijklmnopqrstuvwxyzabcdefghijkl\
-     mnopqrstuvwxyzabcdefghijklmnopqrstuvwxyzabcdefghijklmnopqrstuvwxyzabcdefghijklmnopqrstuvwxyzabcdefghijkl\
-     mnopqrstuvwxyzabcdefghijklmnopqrstuvwxyzabcdefghijklmnopqrstuvwxyzabcdefghijklmnopqrstuvwxyzabcdefghijk\n",
+    "A line of 456 bytes, of which 146, as many as a region keeps, are more than what may wait. abcdefghijklmnopqrstuvwxyzabcdefghijklmnopqrstuvwxyzabcdefghijklmnopqrstuvwxyzabcdefghijklmnopqrstuvwxyzabcdefghijklmnopqrstuvwxyzabcdefghijklmnopqrstuvwxyzabcdefghijklmnopqrstuvwxyzabcdefghijklmnopqrstuvwxyzabcdefghijklmnopqrstuvwxyzabcdefghijklmnopqrstuvwxyzabcdefghijklmnopqrstuvwxyzabcdefghijklmnopqrstuvwxyzabcdefghijklmnopqrstuvwxyzabcdefghijklmnopqrstuvwxyz\n",
     None,
 );
 
-const MANY: Lines = [&[WIDE; 64], &[(5, "z", None)]];
+const MANY: Lines = [&[WIDE; 146], &[(5, "z", None)]];
 
 // A run up to a hole.
 const HOLED_BEHIND: Lines = [
@@ -125,7 +116,7 @@ const HOLED_BEHIND: Lines = [
 fn copy(into: &mut [u8], text: &[u8]) -> u32 {
     let count = into.len().min(text.len());
     into[..count].copy_from_slice(&text[..count]);
-    count.min(1999) as u32
+    count.min(999) as u32
 }
 
 // A hole that is in a line of this length.
@@ -393,15 +384,15 @@ fn one_round_behind_another(rt: HostRuntime) -> Result<(), Fail> {
 }
 
 /// How many bytes a write takes, from which write on the sink fails, how many bytes it took, and how many writes there were.
-const WIDE_WRITES: &[(u32, u64, usize, u64)] = &[(99_999, 3, 66_561, 2), (1000, 3, 2000, 3)];
+const WIDE_WRITES: &[(u32, u64, usize, u64)] = &[(99_999, 3, 66_577, 2), (1000, 3, 2000, 3)];
 
 fn takes_so(alloc: Global, row: &(u32, u64, usize, u64)) -> Result<bool, AllocError> {
     let (short, from, count, writes) = *row;
     let mut out = MemSink::new(alloc);
     out.short(short);
     out.fail_from(from);
-    prints(alloc, 66_560, &MANY, &[All], None, &mut out)?;
-    let front = out.bytes().get(..1040);
+    prints(alloc, 66_576, &MANY, &[All], None, &mut out)?;
+    let front = out.bytes().get(..456);
     Ok(front == Some(WIDE.1.as_bytes()) && out.bytes().len() == count && out.writes() == writes)
 }
 

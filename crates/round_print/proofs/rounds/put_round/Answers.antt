@@ -41,7 +41,7 @@ loop-i-init g c = record {
   fewer = λ i d lt. omega arith;
   lanes = λ i d lt. record {
     later = refl;
-    keeps = record { lane = lane_still printing (get_or c.args.lanes.now i d); room = refl; tidy = λ t. t; few = λ f. f };
+    keeps = record { lane = lane_still printing (get_or c.args.lanes.now i d); room = refl; limit = refl; tidy = λ t. t; few = λ f. f };
   };
 }
 

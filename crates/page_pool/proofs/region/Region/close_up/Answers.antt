@@ -38,6 +38,8 @@ invariant_of-self c =
     ∙ ap (λ (n : ℕ). map (earlier r.from) (take n (marks_of r))) count ∙ ap (map (earlier r.from)) (take-length (marks_of r)) in
     let left : c.truncate.new.self.len ≡ r.marks.len - r.first = omega (arith, c.truncate.ensures.len, c.len.ensures) in
     record {
+      most = is.most;
+      bound = is.bound;
       marks = omega (arith, is.marks, c.truncate.ensures.capacity);
       few = omega (arith, is.few, left);
       first = omega arith;
@@ -74,5 +76,6 @@ returns c =
       kept = kept_closed r is text c.truncate.new.self.items long moved marked ∙ ap (λ (v : Lines). v.kept) c.self.view_is;
       used = left ∙ count_of r c.args.self.now c.self.view_is;
       room = ap (λ (v : Lines). v.room) c.self.view_is;
+      limit = ap (λ (v : Lines). v.limit) c.self.view_is;
       free = subst Free c.self.view_is (free_closed r is text c.truncate.new.self.items long moved marked);
     }
