@@ -1,17 +1,23 @@
-use page_pool::{Lane, LaneState, Pool, Put, Region};
+ghost use Rattle.std.specs.Prelude.{◌≡◌, length};
+
+use page_pool::{ByteBuffer, Lane, LaneState, Pool, Put, Region};
 use std::alloc::{AllocError, Global};
 use std::test::Fail;
 use trace_base::Tail;
 use trace_samples::layout;
 
-// A lane that holds a sub-buffer is left as it is.
-fn write_first(lane: &mut Lane, value: u8) {
-    if lane.cursor.state != LaneState::Fresh {
-        return;
-    }
-    if let Some(first) = lane.page.bytes_mut().first_mut() {
+fn write_byte(page: &mut ByteBuffer, value: u8)
+    ensures { length page.new ≡ length page.old }
+{
+    if let Some(first) = page.bytes_mut().first_mut() {
         *first = value;
     }
+}
+
+// The lane holds no sub-buffer then, so that nothing is said of its bytes.
+fn write_first(lane: &mut Lane, value: u8) {
+    lane.cursor.state = LaneState::Fresh;
+    write_byte(&mut lane.page, value);
 }
 
 // A lane of processor 0 before its first item, whose buffers have these lengths; the first byte of the sub-buffer's is given.
@@ -115,13 +121,20 @@ fn keeps_empty_lines(region: &mut Region, most: u32) -> bool {
     keep(region, 1, b"") == Put::Full
 }
 
+fn is_kept_until_dropped(lane: &mut Lane) -> bool {
+    keeps_what_was_put(&mut lane.region)
+        && drops_a_front(&mut lane.region)
+        && keeps_empty_lines(&mut lane.region, 146)
+}
+
 #[test]
 fn lines_are_kept_until_they_are_dropped(rt: HostRuntime) -> Result<(), Fail> {
     let mut pool = Pool::new(rt.alloc(), &layout(), 1, 10)?;
-    let lanes = pool.lanes();
-    let region = &mut lanes[0].region;
-    let is_kept = keeps_what_was_put(region) && drops_a_front(region);
-    assert!(rt; is_kept && keeps_empty_lines(region, 146));
+    let is_kept = match pool.lanes().first_mut() {
+        Some(lane) => is_kept_until_dropped(lane),
+        None => false,
+    };
+    assert!(rt; is_kept);
     Ok(())
 }
 
