@@ -3,7 +3,7 @@
 // Whole marks tell all keys apart. Short ones are words of 64 bits, which are compared in half the steps: they have a key's distance
 // from a base, and tell keys apart that are not too far from each other.
 
-ghost use Rattle.std.specs.Prelude.{◌≡◌, ◌≢◌, ◌⊎◌, ℕ, ◌*◌, ◌<◌, ◌≤◌, length, slice_index_or, Some, IfSome, true};
+ghost use Rattle.std.specs.Prelude.{◌≡◌, ◌≢◌, ◌⊎◌, ℕ, ◌*◌, ◌<◌, ◌≤◌, length, slice_index_or, unwrap_or, Some, IfSome, true};
 ghost use Rattle.tournament_tree.specs.Nodes.{IsSmall, IsTelling, base_with, highest, mark_of, most, nothing, scale, short_of, whole};
 
 use crate::slot_key::SlotKey;
@@ -53,13 +53,20 @@ pub(crate) fn short_of(base: u64, slot: usize, key: SlotKey) -> u64
     }
 }
 
-/// The base once a slot has this key: the first time that comes sets it.
-pub(crate) fn base_with(base: Option<u64>, key: SlotKey) -> Option<u64>
-    ensures { result ≡ base_with base key }
+/// The base once a slot has this key: the first time that comes sets it, and before it any will do.
+#[inline]
+pub(crate) fn base_with(base: &mut Option<u64>, key: SlotKey) -> u64
+    ensures set { base.new ≡ base_with base.old key }
+    ensures value { result ≡ unwrap_or base.new 0 }
 {
-    match (base, key) {
-        (None, SlotKey::At(key)) => Some(key.saturating_sub(HALF).min(HIGHEST)),
-        _ => base,
+    match (*base, key) {
+        (Some(base), _) => base,
+        (None, SlotKey::At(key)) => {
+            let first = key.saturating_sub(HALF).min(HIGHEST);
+            *base = Some(first);
+            first
+        }
+        (None, _) => 0,
     }
 }
 

@@ -103,9 +103,8 @@ impl TournamentTree {
         if self.nodes.is_empty() {
             return;
         }
-        let base = base_with(self.base, key);
-        self.base = base;
-        self.nodes[slots + slot] = short_of(base.unwrap_or(0), slot, key);
+        let base = base_with(&mut self.base, key);
+        self.nodes[slots + slot] = short_of(base, slot, key);
         settle(self.nodes.as_mut_slice(), slots, slots + slot);
     }
 

@@ -32,8 +32,8 @@ invariant_of-self-2 c =
     let slots : n ≡ length keys = omega (arith, c.len-slots.ensures, t.keys.ok.0) in
     let inside : slot < length keys = omega (arith, c.requires, ap length c.self.view_is) in
     let long : length (set keys slot key) ≡ length keys = length-set keys slot key in
-    let base : c.base_with-base.result ≡ base_with t.base key = c.base_with-base.ensures in
-    let short : c.short_of.result ≡ short_of (unwrap_or (base_with t.base key) 0) slot key = c.short_of.ensures.value ∙ ap (λ (b : ℕ). short_of b slot key) (c.unwrap_or.ensures ∙ ap (λ from. unwrap_or from 0) base) in
+    let base : c.base_with-base.new.base ≡ base_with t.base key = c.base_with-base.ensures.set in
+    let short : c.short_of.result ≡ short_of (unwrap_or (base_with t.base key) 0) slot key = c.short_of.ensures.value ∙ ap (λ (b : ℕ). short_of b slot key) (c.base_with-base.ensures.value ∙ ap (λ from. unwrap_or from 0) base) in
     let mid : c.as_mut_slice.result.now ≡ set t.nodes.items (n + slot) c.short_of.result = c.as_mut_slice.ensures.value in
     let same : set t.nodes.items (n + slot) c.short_of.result ≡ set t.nodes.items (length keys + slot) (short_of (unwrap_or (base_with t.base key) 0) slot key) =
     ap (λ (m : ℕ). set t.nodes.items (m + slot) c.short_of.result) slots ∙ ap (set t.nodes.items (length keys + slot)) short in
@@ -50,7 +50,7 @@ invariant_of-self-2 c =
           (λ i le. c.settle.ensures.leaves i (omega (arith, le, slots)) ∙ ap (λ (nodes : List ℕ). node nodes i) (mid ∙ same));
       settled = λ q one lt. c.settle.ensures.settled q one (omega (arith, lt, slots, long));
     } in
-    subst (λ (words : List ℕ). IsTreeOver (set keys slot key) c.base_with-base.result words) (sym all) (record {
+    subst (λ (words : List ℕ). IsTreeOver (set keys slot key) c.base_with-base.new.base words) (sym all) (record {
       few = omega (arith, w.few, long);
       small = small_set keys slot key inside c.short_of.ensures.small w.small;
       nodes = λ some. subst (λ from. HasNodes (set keys slot key) from c.settle.new.nodes) (sym base) nodes;
