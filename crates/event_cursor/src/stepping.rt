@@ -83,7 +83,7 @@ pub fn head(lane: &Lane) -> Option<(u64, Item<'_>)>
     head_at(&lane.layout, &lane.cursor, lane.page.bytes())
 }
 
-/// Uses up the item that [`head`] gives. The loop over a lane's items keeps it within itself.
+/// Uses up the item that [`head`] gives.
 #[inline(always)]
 pub fn step(lane: &mut Lane)
     requires held { lane.old.cursor.state ≡ LaneState.Held }
@@ -91,11 +91,18 @@ pub fn step(lane: &mut Lane)
     ensures used { IsStepped lane.old lane.new }
     ensures most { most_left lane.new + 1 ≡ most_left lane.old }
 {
-    let layout = lane.layout;
-    step_by(&layout, lane)
+    if let Some(ahead) = lane.cursor.ahead {
+        let high = Some(ahead.key);
+        let mark = ahead.behind.mark();
+        lane.cursor.ahead = ahead_at(&lane.layout, lane.page.bytes(), mark, high);
+        lane.cursor.mark = mark;
+        lane.cursor.at += 1;
+        lane.cursor.high = high;
+    }
 }
 
-/// The same, by the lane's layout as the caller has it: a loop that was made for one byte order goes by a layout of that order.
+/// The same, by the lane's layout as the caller has it: a loop that was made for one byte order goes by a layout of that order,
+/// and keeps the call within itself.
 #[inline(always)]
 pub fn step_by(layout: &Layout, lane: &mut Lane)
     requires layout { lane.old.layout ≡ layout.now }
