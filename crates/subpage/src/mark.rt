@@ -183,7 +183,11 @@ fn pass_event(layout: &Layout, page: &[u8], start: ItemEnd) -> Option<(ItemEnd, 
             };
             Some((behind, Span { from, len }))
         }
-        None => pass_next(*layout, page, start),
+        None => {
+            // Taken apart, so that what is found above stands in no place that the call writes to.
+            let (behind, payload) = pass_next(*layout, page, start)?;
+            Some((behind, payload))
+        }
     }
 }
 
