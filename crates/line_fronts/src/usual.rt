@@ -174,5 +174,6 @@ pub(crate) fn write_front(
     ensures { text.new ≡ task.now ++ (usual_when cpu time ++ label.now) }
 {
     write_when(cpu, time, label, text);
-    put_copy::<USUAL_TASK>(0, task, text);
+    // By no place of its own: a copy of 22 bytes is compiled to two that overlap, and would wait for both before it is read again.
+    put_at(0, USUAL_TASK, task, text);
 }
