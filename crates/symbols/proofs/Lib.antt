@@ -1,4 +1,5 @@
 pub mod Addresses
+pub mod FewSpots
 pub mod FirstSymbols
 pub mod Forms
 pub mod MapLemmas

@@ -1,7 +1,7 @@
 // A search among numbers that rise.
 
 ghost use Rattle.std.specs.Prelude.{◌≡◌, ◌+◌, ◌<◌, ◌≤◌, ℕ, length, slice_index, IfSome, IfNone};
-ghost use Rattle.symbols.specs.Search.{keys_in, IsLastUpTo, NoneWithin, RisesKeys};
+ghost use Rattle.symbols.specs.Search.{keys_in, IsAdvanced, IsLastUpTo, NoneWithin, RisesKeys};
 
 use crate::guide::Near;
 use crate::names::Spot;
@@ -37,6 +37,34 @@ fn last_among(spots: &[Spot], from: usize, count: usize, key: u64) -> usize
     low
 }
 
+/// The next place, if the number there is at most this one, and else this place. Which of both is no jump that a processor would
+/// have to guess.
+#[inline(always)]
+fn advance(spots: &[Spot], at: usize, key: u64) -> usize
+    requires { at + 1 < length spots.now }
+    ensures { IsAdvanced (keys_in spots.now) key at result }
+{
+    at + (key_at(spots, at + 1) <= key) as usize
+}
+
+/// How far apart the places of a few numbers are at the most.
+const FEW: usize = 4;
+
+/// The place of the greatest number that is at most this one, which stands between two places that are not far apart.
+#[inline(always)]
+fn last_of_few(spots: &[Spot], near: Near, key: u64) -> usize
+    requires rises { RisesKeys (keys_in spots.now) }
+    requires within { near.to < length spots.now }
+    requires few { (near.from < near.to) × (near.to ≤ near.from + FEW) }
+    requires first { slice_index (keys_in spots.now) near.from ≤ key }
+    requires past { key < slice_index (keys_in spots.now) near.to }
+    ensures { IsLastUpTo (keys_in spots.now) key result }
+{
+    let second = advance(spots, near.from, key);
+    let third = advance(spots, second, key);
+    advance(spots, third, key)
+}
+
 /// The place of the greatest number that is at most this one, if it stands between these places.
 #[inline(always)]
 fn place_between(spots: &[Spot], near: Near, key: u64) -> Option<usize>
@@ -47,7 +75,11 @@ fn place_between(spots: &[Spot], near: Near, key: u64) -> Option<usize>
     if from >= to || to >= spots.len() || key < key_at(spots, from) || key_at(spots, to) <= key {
         return None;
     }
-    Some(last_among(spots, from, to - from, key))
+    if to - from <= FEW {
+        Some(last_of_few(spots, near, key))
+    } else {
+        Some(last_among(spots, from, to - from, key))
+    }
 }
 
 /// The place of the greatest number that is at most this one, by a search among all.
