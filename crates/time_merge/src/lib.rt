@@ -28,7 +28,7 @@ mod readiness;
 mod ready;
 mod setting;
 
-pub use ending::End;
+pub use ending::{End, IoFault};
 pub use highs::{high_of, horizon};
 pub use horizons::Horizon;
 pub use in_step::{next_lane_by, turn_of};
