@@ -1,5 +1,6 @@
 -- What a command prints, as one of the four endings.
-use Rattle.std.proofs.Common.{◌≡◌, ℕ, length, List, [], ◌∷◌, Option, None, Some, IfSome, refl, sym, ap, ◌∙◌, subst, arith}
+use Rattle.std.proofs.Common.{◌≡◌, ℕ, length, List, [], ◌∷◌, Option, None, Some, IfSome, Result, Ok, Err, refl, sym, ap, ◌∙◌, subst, arith}
+use Rattle.std.specs.Prelude.{IsErrOf}
 use Rattle.std.proofs.lemmas.List.{append-nil}
 use Rattle.std.specs.Option.{option_map}
 use Rattle.trace_outside.specs.Causes.{Rose}
@@ -10,6 +11,8 @@ use Rattle.item_pass.specs.declared.passing.PassFault.{PassFault}
 use Rattle.item_pass.specs.declared.passing.PassFault.TheVariants as pass
 use Rattle.time_merge.specs.declared.ending.End.{End}
 use Rattle.time_merge.specs.declared.ending.End.TheVariants as end
+use Rattle.time_merge.specs.declared.ending.IoFault.{IoFault}
+use Rattle.time_merge.specs.declared.ending.IoFault.TheVariants as fault
 use Rattle.run_endings.specs.declared.status.Status.{Status}
 use Rattle.run_endings.specs.declared.status.Status.TheVariants.{Done, Usage, Refused, Malformed, ReadFault, WriteFault, NoMemory}
 use Rattle.run_endings.specs.Ending.{CountsNoFault, Ends, IfNoMemory, IsCaused, LeavesAll, Prints}
@@ -145,9 +148,9 @@ piece_unprinted unread piece put before now prefix rose is =
     (subst (λ (t : List ℕ). GainedPrefix before.written now.written t) (is ∙ sym (one_piece piece)) prefix) rose
 
 -- the end of a report of events shows its faults
-pub end_shows : (unread : Type 0) (answer : End) (before now : SinkSeen) → (answer ≡ end.Read → unread) → (answer ≡ end.Write → Rose before.faults now.faults)
+pub end_shows : (unread : Type 0) (answer : Result End IoFault) (before now : SinkSeen) → (IsErrOf answer fault.Read → unread) → (IsErrOf answer fault.Write → Rose before.faults now.faults)
     → Shows unread (status_of_end answer) before now
-end_shows unread end.Done before now read write = tt
-end_shows unread (end.Malformed cut) before now read write = tt
-end_shows unread end.Read before now read write = read refl
-end_shows unread end.Write before now read write = write refl
+end_shows unread (Ok end.Done) before now read write = tt
+end_shows unread (Ok (end.Malformed cut)) before now read write = tt
+end_shows unread (Err fault.Read) before now read write = read refl
+end_shows unread (Err fault.Write) before now read write = write refl

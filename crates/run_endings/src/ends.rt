@@ -6,22 +6,22 @@ ghost use Rattle.run_endings.specs.Ends as spec;
 use crate::status::Status;
 use item_pass::PassFault;
 use subpage::CutPlace;
-use time_merge::End;
+use time_merge::{End, IoFault};
 
-/// The answer for this end.
-pub fn status_of_end(end: End) -> Status
+/// The answer for this end, or for the fault in its place.
+pub fn status_of_end(end: Result<End, IoFault>) -> Status
     ensures { result ≡ spec.status_of_end end }
 {
     match end {
-        End::Done => Status::Done,
-        End::Malformed(cut) => Status::Malformed(cut),
-        End::Read => Status::ReadFault,
-        End::Write => Status::WriteFault,
+        Ok(End::Done) => Status::Done,
+        Ok(End::Malformed(cut)) => Status::Malformed(cut),
+        Err(IoFault::Read) => Status::ReadFault,
+        Err(IoFault::Write) => Status::WriteFault,
     }
 }
 
 /// The same, or the answer where there was no memory to begin.
-pub fn status_or_memory(end: Option<End>) -> Status
+pub fn status_or_memory(end: Option<Result<End, IoFault>>) -> Status
     ensures { result ≡ spec.status_or_memory end }
 {
     match end {
@@ -51,11 +51,8 @@ pub fn status_of_cut(cut: Option<CutPlace>) -> Status
 }
 
 /// Whether all that the lanes have up to their cut was used up.
-pub fn is_whole(end: End) -> bool
+pub fn is_whole(end: Result<End, IoFault>) -> bool
     ensures { result ≡ spec.is_whole end }
 {
-    match end {
-        End::Done | End::Malformed(_) => true,
-        End::Read | End::Write => false,
-    }
+    end.is_ok()
 }
