@@ -1,5 +1,5 @@
 -- Packing that stops at a lane.
-use Rattle.std.proofs.Common.{◌≡◌, ℕ, ◌+◌, ◌-◌, ◌<◌, ◌≤◌, List, [], ◌∷◌, length, get_or, set, take, drop, sym, ap, ◌∙◌, arith}
+use Rattle.std.proofs.Common.{◌≡◌, ℕ, ◌+◌, ◌-◌, ◌<◌, ◌≤◌, List, [], ◌∷◌, length, get_or, set, take, drop, Result, Ok, Err, sym, ap, ◌∙◌, arith}
 use Rattle.std.proofs.lemmas.List.{drop-set-lt, ext_get_or, get_or-drop, get_or-map, get_or_default, length-drop, length-map, length-set, take-map, take-set}
 use Rattle.trace_base.specs.declared.layout.Layout.{Layout}
 use Rattle.trace_base.specs.declared.part.Part.{Part}
@@ -9,6 +9,7 @@ use Rattle.page_pool.specs.declared.lane.Lane.{Lane}
 use Rattle.page_pool.specs.declared.cursor.LaneState.{LaneState}
 use Rattle.time_merge.specs.declared.ending.End.{End}
 use Rattle.time_merge.specs.declared.ending.End.TheVariants as code
+use Rattle.time_merge.specs.declared.ending.IoFault.{IoFault}
 use Rattle.split_passes.specs.AllAgain.{StoppedAt, TellsHeld, TellsStop}
 use Rattle.split_passes.specs.Reads.{numbers_of}
 
@@ -41,15 +42,14 @@ abbrev held_in : Lane → CutPlace
 held_in lane = place_at lane.cpu lane.cursor.held
 
 -- the one at which packing stopped is one that a lane holds
-pub tells_held : (before now : List Lane) (end : End) → TellsStop before now end → TellsHeld now end
-tells_held before now code.Done h = tt
-tells_held before [] (code.Malformed cut) h = absurd (omega (arith, h.inside))
-tells_held before (a ∷ lanes) (code.Malformed cut) h =
+pub tells_held : (before now : List Lane) (end : Result End IoFault) → TellsStop before now end → TellsHeld now end
+tells_held before now (Ok code.Done) h = tt
+tells_held before [] (Ok (code.Malformed cut)) h = absurd (omega (arith, h.inside))
+tells_held before (a ∷ lanes) (Ok (code.Malformed cut)) h =
     let now : List Lane = a ∷ lanes in
     let holds = h.holds a in (
       h.at,
       omega (arith, h.inside, length-map now held_in),
       get_or-map held_in now h.at a cut h.inside ∙ ap (λ (n : ℕ). place_at n (get_or now h.at a).cursor.held) holds.0 ∙ ap (place_at cut.cpu) holds.1,
     )
-tells_held before now code.Read h = tt
-tells_held before now code.Write h = tt
+tells_held before now (Err fault) h = tt

@@ -1,4 +1,4 @@
-ghost use Rattle.std.specs.Prelude.{◌≡◌, ◌-◌, ◌≤◌, ℕ, List, [], All, length, slice_index_or, IfOk, IfSome, OnOk, Some};
+ghost use Rattle.std.specs.Prelude.{◌≡◌, ◌-◌, ◌≤◌, ℕ, List, [], All, length, slice_index_or, IfOk, IfSome, IsErrOf, Ok, OnOk, Some};
 ghost use Rattle.trace_outside.specs.Causes.{HasCause, Rose, raised};
 ghost use Rattle.trace_outside.specs.Keeping.{KeepsFile, KeepsSink};
 ghost use Rattle.trace_base.specs.declared.layout.Layout.{Layout};
@@ -29,7 +29,7 @@ use page_pool::{Lane, Pool};
 use split_pieces::Gauge;
 use std::alloc::{AllocError, Global};
 use std::marker::Model;
-use time_merge::{End, make_all_ready, pool_over};
+use time_merge::{End, IoFault, make_all_ready, pool_over};
 use tournament_tree::TournamentTree;
 use trace_base::{Layout, Part};
 use trace_outside::{Failed, File, Sink};
@@ -174,7 +174,15 @@ impl LaneList {
     /// Packs each lane's items of the piece, one lane after another, and leaves each where it stands after the piece. Of a lane
     /// whose front is in the sub-buffer that it holds nothing is read, and otherwise each sub-buffer from the front's on once.
     /// `page` is room for one sub-buffer.
-    pub fn pack<F: File, O: Sink>(&mut self, file: &mut F, page: &mut [u8], out: &mut O) -> End
+    ///
+    /// # Errors
+    /// Whether a read or a write failed.
+    pub fn pack<F: File, O: Sink>(
+        &mut self,
+        file: &mut F,
+        page: &mut [u8],
+        out: &mut O,
+    ) -> Result<End, IoFault>
         requires whole { length page.old ≡ self.old.layout.page }
         ensures kept { self.new ≡ (record self.old { all = self.new.all }) }
         ensures parts { parts_of self.new.all ≡ parts_of self.old.all }
@@ -187,12 +195,12 @@ impl LaneList {
             (record { lanes = self.new.all; written = O.written out.new }) result) }
         // The next three hold of any file, also of one that gives other bytes than when the piece was measured.
         ensures malformed { TellsStop self.old.all self.new.all result }
-        ensures gains { result ≡ End.Done → GainsSome (O.written out.old) (O.written out.new) }
-        ensures numbers { result ≡ End.Done → numbers_of self.new.all ≡ numbers_of self.old.all }
+        ensures gains { result ≡ Ok End.Done → GainsSome (O.written out.old) (O.written out.new) }
+        ensures numbers { result ≡ Ok End.Done → numbers_of self.new.all ≡ numbers_of self.old.all }
         ensures reads { F.reads file.new ≤ raised (F.reads file.old)
             (all_packing (F.size file.old) self.old.all self.old.fronts self.old.tallies) }
-        ensures read { result ≡ End.Read → Rose (F.faults file.old) (F.faults file.new) }
-        ensures write { result ≡ End.Write → Rose (O.faults out.old) (O.faults out.new) }
+        ensures read { IsErrOf result IoFault.Read → Rose (F.faults file.old) (F.faults file.new) }
+        ensures write { IsErrOf result IoFault.Write → Rose (O.faults out.old) (O.faults out.new) }
         ensures keeps_out { KeepsSink O.Sink out.old out.new }
         ensures keeps { KeepsFile F.File file.old file.new }
     {
@@ -311,7 +319,7 @@ fn pack_in<F: File, O: Sink>(
     tallies: &[Tally],
     page: &mut [u8],
     out: &mut O,
-) -> End
+) -> Result<End, IoFault>
     requires layouts { All (HasLayout layout.now) pool.old }
     requires whole { length page.old ≡ layout.now.page }
     requires fronts { length fronts.now ≡ length pool.old }
@@ -324,12 +332,12 @@ fn pack_in<F: File, O: Sink>(
         → IsPackedAll layout.now bytes lists (record { lanes = pool.old; written = O.written out.old })
         (record { lanes = pool.new; written = O.written out.new }) result) }
     ensures malformed { TellsStop pool.old pool.new result }
-    ensures gains { result ≡ End.Done → GainsSome (O.written out.old) (O.written out.new) }
-    ensures numbers { result ≡ End.Done → numbers_of pool.new ≡ numbers_of pool.old }
+    ensures gains { result ≡ Ok End.Done → GainsSome (O.written out.old) (O.written out.new) }
+    ensures numbers { result ≡ Ok End.Done → numbers_of pool.new ≡ numbers_of pool.old }
     ensures reads { F.reads file.new ≤ raised (F.reads file.old)
         (all_packing (F.size file.old) pool.old fronts.now tallies.now) }
-    ensures read { result ≡ End.Read → Rose (F.faults file.old) (F.faults file.new) }
-    ensures write { result ≡ End.Write → Rose (O.faults out.old) (O.faults out.new) }
+    ensures read { IsErrOf result IoFault.Read → Rose (F.faults file.old) (F.faults file.new) }
+    ensures write { IsErrOf result IoFault.Write → Rose (O.faults out.old) (O.faults out.new) }
     ensures keeps_out { KeepsSink O.Sink out.old out.new }
     ensures keeps { KeepsFile F.File file.old file.new }
 {

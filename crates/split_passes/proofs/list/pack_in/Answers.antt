@@ -1,4 +1,4 @@
-use Rattle.std.proofs.Common.{◌≡◌, ◌≤◌, List, length, ap, sym, ◌∙◌}
+use Rattle.std.proofs.Common.{◌≡◌, ◌≤◌, List, length, Ok, ap, sym, ◌∙◌}
 use Rattle.std.specs.Option.{IfSome}
 use Rattle.std.specs.List.{All}
 use Rattle.trace_outside.specs.Causes.{raised}
@@ -33,7 +33,7 @@ returns-clause-malformed g c =
 
 pub returns-clause-numbers : goal.returns-clause-numbers
 returns-clause-numbers g c =
-    lent (λ (a b : List Lane). c.pack_all.result ≡ code.Done → numbers_of b ≡ numbers_of a) c.args.pool.now c.lanes.result.now c.pack_all.new.lanes c.lanes.ensures.value c.pack_all.ensures.parts c.pack_all.ensures.numbers
+    lent (λ (a b : List Lane). c.pack_all.result ≡ Ok code.Done → numbers_of b ≡ numbers_of a) c.args.pool.now c.lanes.result.now c.pack_all.new.lanes c.lanes.ensures.value c.pack_all.ensures.parts c.pack_all.ensures.numbers
 
 pub returns-clause-reads : goal.returns-clause-reads
 returns-clause-reads g c =

@@ -1,4 +1,4 @@
-use Rattle.std.proofs.Common.{◌≡◌, ◌≤◌, List, length, ap, subst, sym, ◌∙◌}
+use Rattle.std.proofs.Common.{◌≡◌, ◌≤◌, List, length, Ok, ap, subst, sym, ◌∙◌}
 use Rattle.std.specs.Option.{IfSome}
 use Rattle.std.specs.List.{All}
 use Rattle.trace_outside.specs.Causes.{raised}
@@ -64,7 +64,7 @@ pub returns-clause-malformed : goal.returns-clause-malformed
 returns-clause-malformed g c = subst (λ (v : ListSeen). TellsStop v.all c.pack_in.new.pool c.pack_in.result) c.self.view_is c.pack_in.ensures.malformed
 
 pub returns-clause-numbers : goal.returns-clause-numbers
-returns-clause-numbers g c = subst (λ (v : ListSeen). c.pack_in.result ≡ code.Done → numbers_of c.pack_in.new.pool ≡ numbers_of v.all) c.self.view_is c.pack_in.ensures.numbers
+returns-clause-numbers g c = subst (λ (v : ListSeen). c.pack_in.result ≡ Ok code.Done → numbers_of c.pack_in.new.pool ≡ numbers_of v.all) c.self.view_is c.pack_in.ensures.numbers
 
 pub returns-clause-reads : goal.returns-clause-reads
 returns-clause-reads g c =
