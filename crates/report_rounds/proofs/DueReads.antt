@@ -1,5 +1,5 @@
 -- Whatever ends the rounds, no more was read than is due by what was written.
-use Rattle.std.proofs.Common.{◌+◌, ◌≡◌, ℕ, zero, suc, ◌-◌, ◌*◌, ◌<◌, ◌≤◌, Bool, true, false, List, [], ◌∷◌, ◌++◌, length, take, get_or, sum_by, Option, Some, None, refl, sym, ap, subst, ◌∙◌, arith, inl, inr}
+use Rattle.std.proofs.Common.{◌+◌, ◌≡◌, ℕ, zero, suc, ◌-◌, ◌*◌, ◌<◌, ◌≤◌, Bool, true, false, List, [], ◌∷◌, ◌++◌, length, take, get_or, sum_by, Option, Some, None, Result, Ok, Err, refl, sym, ap, subst, ◌∙◌, arith, inl, inr}
 use Rattle.std.specs.Prelude.{count_by, nat_eq}
 use Rattle.std.specs.List.{All, starts_with}
 use Rattle.std.specs.Option.{IfSome}
@@ -32,13 +32,14 @@ use Rattle.time_merge.specs.Reads.{all_unread}
 use Rattle.time_merge.specs.Rows.{Row}
 use Rattle.time_merge.specs.declared.ending.End.{End}
 use Rattle.time_merge.specs.declared.ending.End.TheVariants as code
+use Rattle.time_merge.specs.declared.ending.IoFault.{IoFault}
+use Rattle.time_merge.specs.declared.ending.IoFault.TheVariants as fault
 use Rattle.time_merge.proofs.Starting.{fresh_stands}
 use Rattle.round_print.specs.Prints.{CpuLine, filled_text}
 use Rattle.report_rounds.specs.Between.{IsAtStart, IsBetween}
 use Rattle.report_rounds.specs.Due.{ReadsDue, due_bytes, due_count, greatest_up_to, has_line, is_page_due, is_of, pieces_of, whole_pieces, written_pieces}
 use Rattle.report_rounds.specs.Lines.{left_lines}
-use Rattle.report_rounds.specs.Turns.{HasLoaded, HasPrinted, IsEnding, IsFurther, IsTurned, RoundState}
-use Rattle.report_rounds.specs.declared.ends.Outcome.TheVariants as round
+use Rattle.report_rounds.specs.Turns.{HasLoaded, HasPrinted, IsEnding, IsFurther, RoundState}
 use Rattle.report_rounds.proofs.DueLanes.{AsksDue, HasWritten, asked_due, asks_due, fresh_all, lanes_due}
 use Rattle.report_rounds.proofs.LineCounts.{one_if, waiting_count}
 use Rattle.report_rounds.proofs.Pairs.{parts_on}
@@ -100,11 +101,11 @@ module _ (done left : List CpuLine) (rest : List ℕ) where
 
 module _ (text : ℕ → ItemData → LineText) (l : Layout) (file : List ℕ) where
   -- whatever the end, the sink gained some text
-  ending_gained : (before : RoundState) (new : Option (List ℕ)) (end : End) → IsEnding text l file before new end → (rest : List ℕ) × Gained before.written new rest
-  ending_gained before new code.Done ending = (_, ending.0)
-  ending_gained before new (code.Malformed cut) ending = (_, ending.0)
-  ending_gained before new code.Read ending = ([], ending ∙ gained_nothing before.written)
-  ending_gained before new code.Write ending = (_, ending.1)
+  ending_gained : (before : RoundState) (new : Option (List ℕ)) (end : Result End IoFault) → IsEnding text l file before new end → (rest : List ℕ) × Gained before.written new rest
+  ending_gained before new (Ok code.Done) ending = (_, ending.0)
+  ending_gained before new (Ok (code.Malformed cut)) ending = (_, ending.0)
+  ending_gained before new (Err fault.Read) ending = ([], ending ∙ gained_nothing before.written)
+  ending_gained before new (Err fault.Write) ending = (_, ending.1)
 
   -- a lane at the start has all of its items left
   start_left : (a : Lane) → IsFresh a.cursor → left_of file a ≡ list_of a.layout file a.part
@@ -205,9 +206,9 @@ module _ (text : ℕ → ItemData → LineText) (l : Layout) (file : List ℕ) w
 
 -- over a file that may tell its bytes
 pub due_told : (text : ℕ → ItemData → LineText) (l : Layout) (told now_told : Option (List ℕ)) (len now_len : ℕ) (first : List Lane) (old : Option (List ℕ)) (mid now : RoundState) (before reads after : ℕ)
-    (end : End) → now_told ≡ told → now_len ≡ len → IfSome told (λ file. length file ≡ len) → 0 < l.page → All (IsAtStart l) first → All (IsBetween text l) mid.lanes → parts_of mid.lanes ≡ parts_of first
+    (end : Result End IoFault) → now_told ≡ told → now_len ≡ len → IfSome told (λ file. length file ≡ len) → 0 < l.page → All (IsAtStart l) first → All (IsBetween text l) mid.lanes → parts_of mid.lanes ≡ parts_of first
     → IfSome told (λ file. IsFurther text file (first_state first old) mid)
-    → HasLoaded now_told now_len mid.lanes reads after → IfSome now_told (λ file. All (Stands file) mid.lanes → IsTurned text l file mid now (round.Ends end))
+    → HasLoaded now_told now_len mid.lanes reads after → IfSome now_told (λ file. All (Stands file) mid.lanes → IsEnding text l file mid now.written end)
     → all_unread len mid.lanes ≤ all_unread len first → reads ≤ raised before (all_unread len first - all_unread len mid.lanes)
     → IfSome told (λ file. ReadsDue text l file (parts_of first) old now.written before after)
 due_told text l None now_told len now_len first old mid now before reads after end same same_len size some start all parts going load turned less read = tt

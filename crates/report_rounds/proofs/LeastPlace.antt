@@ -1,27 +1,23 @@
 -- The lane of a horizon is the one of the least greatest time.
 use Rattle.std.proofs.Common.{◌≡◌, ℕ, suc, ◌+◌, ◌-◌, ◌<◌, ◌≤◌, List, ◌∷◌, ◌++◌, length, get_or, map, Option, Some, None, sym, ap, subst, ◌∙◌, arith, inl, inr}
 use Rattle.std.specs.List.{All}
-use Rattle.std.specs.Option.{IfSome}
 use Rattle.std.proofs.lemmas.Bool.{cases_order}
 use Rattle.std.proofs.lemmas.List.{get_or_append_left, get_or-append-add, length-append}
 use Rattle.std.proofs.Math.Seq.{get_or-append_seam}
-use Rattle.subpage.specs.CutPlaces.{place_at}
 use Rattle.page_pool.specs.declared.lane.Lane.{Lane}
 use Rattle.tournament_tree.specs.declared.slot_key.SlotKey.{SlotKey}
 use Rattle.tournament_tree.specs.declared.slot_key.SlotKey.TheVariants.{Empty}
 use Rattle.tournament_tree.specs.Least.{from_time}
 use Rattle.tournament_tree.proofs.Ranks.{never_empty, rank_from}
-use Rattle.time_merge.specs.declared.ending.End.{End}
 use Rattle.time_merge.specs.declared.ending.End.TheVariants as code
 use Rattle.time_merge.specs.declared.horizons.Horizon.{Horizon}
 use Rattle.time_merge.specs.declared.horizons.Horizon.TheVariants as horizon
 use Rattle.time_merge.specs.Horizons.{IsHorizon, high_of}
 use Rattle.time_merge.specs.Nexts.{IsLeastAt, IsLeastOf}
 use Rattle.time_merge.specs.Rows.{NotBefore, rank}
-use Rattle.report_rounds.specs.Ends.{EndsThere, IsOutcome, IsStop}
+use Rattle.report_rounds.specs.Ends.{IsOutcome, IsStop}
 use Rattle.report_rounds.specs.declared.ends.Outcome.{Outcome}
 use Rattle.report_rounds.specs.declared.ends.Outcome.TheVariants as round
-use Rattle.report_rounds.proofs.Pairs.{some_lane}
 
 module _ (keys : List SlotKey) (i : ℕ) (high : Option ℕ) (least : IsLeastOf keys i high) where
   abbrev parted : List SlotKey
@@ -72,20 +68,6 @@ same_place keys i j a b first second = elim (cases_order i j) [
 
 none_least : (keys : List SlotKey) (i : ℕ) (high : Option ℕ) → All (λ key. key ≡ Empty) keys → IsLeastOf keys i high → ⊥
 none_least keys i high none least = never_empty high (sym (here keys i high least) ∙ none i Empty (inside keys i high least))
-
--- no round ends so but where a read or a write fails
-abbrev pub IsSound : Outcome → Type 0
-IsSound outcome = (outcome ≡ round.Ends code.Read → ⊥) × (outcome ≡ round.Ends code.Write → ⊥)
-
-pub outcome_sound : (lanes : List Lane) (least : Option ℕ) (outcome : Outcome) → IfSome least (λ i. i < length lanes) → IsOutcome lanes least outcome → IsSound outcome
-outcome_sound lanes None outcome inside stop = (λ e. absurd cc, λ e. absurd cc)
-outcome_sound lanes (Some i) outcome inside stop = (λ e. absurd (cc (there code.Read e)), λ e. absurd (cc (there code.Write e)))
-  where
-    lane : Lane
-    lane = get_or lanes i (some_lane lanes i inside)
-
-    there : (end : End) → outcome ≡ round.Ends end → end ≡ code.Malformed (place_at lane.cpu lane.cursor.next)
-    there end e = let ends : EndsThere lane end = subst (IsStop lane) e (stop (some_lane lanes i inside)) in ends.told
 
 -- what follows a round, by the lane of its horizon
 abbrev pub Follows : (formed now : List Lane) (h : Horizon) → IsHorizon formed h → Outcome → Type 0

@@ -1,5 +1,5 @@
 -- One round, step by step: lanes are loaded, formatted and printed.
-use Rattle.std.proofs.Common.{◌≡◌, ◌≢◌, ℕ, ◌+◌, ◌<◌, ◌≤◌, List, [], ◌∷◌, ◌++◌, length, map, get_or, take, drop, Option, Some, None, refl, sym, ap, subst, ◌∙◌, arith}
+use Rattle.std.proofs.Common.{◌≡◌, ◌≢◌, ℕ, ◌+◌, ◌<◌, ◌≤◌, List, [], ◌∷◌, ◌++◌, length, map, get_or, take, drop, Option, Some, None, Ok, refl, sym, ap, subst, ◌∙◌, arith}
 use Rattle.std.specs.List.{All, count_by}
 use Rattle.std.specs.Option.{IfSome}
 use Rattle.std.proofs.lemmas.List.{append-nil}
@@ -259,7 +259,7 @@ module _ (text : ℕ → ItemData → LineText) (l : Layout) (file : List ℕ) w
 
         -- at the malformed sub-buffer before which the horizon's lane stands
         turned_stop : (high : Option ℕ) (cpu : ℕ) (end : End) → IsHorizonAt h high cpu → (least : IsLeastLane formed high cpu) → ((d : Lane) → EndsThere (get_or now least.i d) end) → (last : Option ℕ) (old new : Option (List ℕ))
-            → Gained old new (filled_text last (printed h formed)) → IsEnding text l file (round_state first last old) new end
+            → Gained old new (filled_text last (printed h formed)) → IsEnding text l file (round_state first last old) new (Ok end)
         turned_stop high cpu end at least stop last old new gained =
             let i : ℕ = least.i in
             let d : Lane = some_lane formed i least.inside in
@@ -277,10 +277,10 @@ module _ (text : ℕ → ItemData → LineText) (l : Layout) (file : List ℕ) w
             (subst (All (Stands file)) there.split formed_stands) (subst (All IsSorted) there.split sorted) state in
             let cut : cut_of l file (parts_of first) ≡ Some (cut_made high cpu lane.cursor.next) =
             ap (cut_of l file) (sym (formed_parts text l (Some file) first loaded formed f)) ∙ sym (cut_of_waiting l file (after text l file h) (λ a. refl) formed (formed_layouts text l (Some file) first loaded formed f all)) ∙ law.0 in
-            subst (λ (e : End). IsEnding text l file (round_state first last old) new e) (sym told) (all_printed law.1 last old new gained, (high, cut))
+            subst (λ (e : End). IsEnding text l file (round_state first last old) new (Ok e)) (sym told) (all_printed law.1 last old new gained, (high, cut))
 
         turned_at : (high : Option ℕ) (cpu : ℕ) → IsHorizonAt h high cpu → (least : IsLeastLane formed high cpu) → (outcome : Outcome) → ((d : Lane) → IsStop (get_or now least.i d) outcome) → (last last_now : Option ℕ) (old new : Option (List ℕ))
-            → Gained old new (filled_text last (printed h formed)) → last_now ≡ last_of last (printed h formed) → IsTurned text l file (round_state first last old) (round_state now last_now new) outcome
+            → Gained old new (filled_text last (printed h formed)) → last_now ≡ last_of last (printed h formed) → IsTurned text l file (round_state first last old) (round_state now last_now new) (Ok outcome)
         turned_at high cpu at least round.GoesOn stop last last_now old new gained is_last = turned_further last last_now old new gained is_last
         turned_at high cpu at least (round.Ends end) stop last last_now old new gained is_last = turned_stop high cpu end at least stop last old new gained
 
@@ -292,10 +292,10 @@ module _ (text : ℕ → ItemData → LineText) (l : Layout) (file : List ℕ) w
   -- what a round did whose lines were all written
   pub turned_ok : (first loaded formed : List Lane) → IsFormed text (Some file) first loaded formed → (h : Horizon) (now : List Lane) → length now ≡ length formed → Related (IsPrinted h) formed now → (outcome : Outcome)
       → (is : IsHorizon formed h) → Follows formed now h is outcome → CpusRise (parts_of first) → All (IsBetween text l) first → All (Stands file) first → (last last_now : Option ℕ) (old new : Option (List ℕ)) → Gained old new (filled_text last (printed h formed))
-      → last_now ≡ last_of last (printed h formed) → IsTurned text l file (round_state first last old) (round_state now last_now new) outcome
+      → last_now ≡ last_of last (printed h formed) → IsTurned text l file (round_state first last old) (round_state now last_now new) (Ok outcome)
   turned_ok first loaded formed f code.All now long print outcome is stop rise all stands last last_now old new gained is_last =
       let none : left_after text l file code.All formed ≡ [] = none_after l file text formed (formed_stands first loaded formed f stands) is in
-      subst (λ (o : Outcome). IsTurned text l file (round_state first last old) (round_state now last_now new) o) (sym stop)
+      subst (λ (o : Outcome). IsTurned text l file (round_state first last old) (round_state now last_now new) (Ok o)) (sym stop)
       (all_printed first loaded formed f stands code.All is rise all none last old new gained, cut_none first loaded formed f stands all is)
   turned_ok first loaded formed f (code.Start c) now long print outcome is stop rise all stands last last_now old new gained is_last =
       turned_at first loaded formed f stands (code.Start c) is rise all now long print None c (at_start c) is outcome stop last last_now old new gained is_last
@@ -305,7 +305,7 @@ module _ (text : ℕ → ItemData → LineText) (l : Layout) (file : List ℕ) w
 module _ (text : ℕ → ItemData → LineText) (l : Layout) where
   pub turned_told : (told : Option (List ℕ)) (first loaded formed : List Lane) → IsFormed text told first loaded formed → (h : Horizon) (now : List Lane) → length now ≡ length formed → Related (IsPrinted h) formed now
       → (outcome : Outcome) → (is : IsHorizon formed h) → Follows formed now h is outcome → CpusRise (parts_of first) → All (IsBetween text l) first → (last last_now : Option ℕ) (old new : Option (List ℕ)) → Gained old new (filled_text last (printed h formed))
-      → last_now ≡ last_of last (printed h formed) → IfSome told (λ file. All (Stands file) first → IsTurned text l file (round_state first last old) (round_state now last_now new) outcome)
+      → last_now ≡ last_of last (printed h formed) → IfSome told (λ file. All (Stands file) first → IsTurned text l file (round_state first last old) (round_state now last_now new) (Ok outcome))
   turned_told None first loaded formed f h now long print outcome is stop rise all last last_now old new gained is_last = tt
   turned_told (Some file) first loaded formed f h now long print outcome is stop rise all last last_now old new gained is_last = λ stands.
       turned_ok text l file first loaded formed f h now long print outcome is stop rise all stands last last_now old new gained is_last

@@ -1,4 +1,4 @@
-ghost use Rattle.std.specs.Prelude.{◌≡◌, ◌≤◌, [], All, IfSome, length, replicate, sum_by, true};
+ghost use Rattle.std.specs.Prelude.{◌≡◌, ◌≤◌, [], All, IfSome, IsErrOf, length, replicate, sum_by, true};
 ghost use Rattle.trace_outside.specs.Causes.{Rose, raised};
 ghost use Rattle.trace_outside.specs.Keeping.{KeepsFile, KeepsSink};
 ghost use Rattle.subpage.specs.Arrangement.{CpusRise};
@@ -15,7 +15,7 @@ use cpu_workers::Workers;
 use line_holes::LineFormat;
 use page_pool::Lane;
 use std::thread::Threads;
-use time_merge::End;
+use time_merge::{End, IoFault};
 use trace_base::Layout;
 use trace_outside::{File, Gate, Pending, Sink};
 
@@ -36,14 +36,14 @@ pub fn report_rounds<R: Threads + Sync, F: File, L: LineFormat, G: Gate, O: Sink
     lanes: RoundLanes,
     pending: Pending,
     out: &mut O,
-) -> End
+) -> Result<End, IoFault>
     requires room { All (HasRoom (L.text form.now)) lanes.all }
     requires shown { HidesNoHole (L.text form.now) }
     requires empty { pending ≡ [] }
     ensures report { IfSome (F.bytes file.old) (λ bytes. IsReport (L.text form.now) lanes.layout bytes (parts_of lanes.all)
         (O.written out.old) (O.written out.new) result) }
-    ensures read { result ≡ End.Read → Rose (F.faults file.old) (F.faults file.new) }
-    ensures write { result ≡ End.Write → Rose (O.faults out.old) (O.faults out.new) }
+    ensures read { IsErrOf result IoFault.Read → Rose (F.faults file.old) (F.faults file.new) }
+    ensures write { IsErrOf result IoFault.Write → Rose (O.faults out.old) (O.faults out.new) }
     ensures keeps_out { KeepsSink O.Sink out.old out.new }
     ensures reads { F.reads file.new
         ≤ raised (F.reads file.old) (sum_by (λ part. part.1.size) (parts_of lanes.all)) }
@@ -77,7 +77,7 @@ fn go_round<R: Threads + Sync, F: File, L: LineFormat, G: Gate, O: Sink>(
     lanes: &mut [Lane],
     work: &mut RoundWork,
     out: &mut O,
-) -> End
+) -> Result<End, IoFault>
     requires start { All (IsAtStart layout.now) lanes.old }
     requires room { All (HasRoom (L.text form.now)) lanes.old }
     requires shown { HidesNoHole (L.text form.now) }
@@ -88,8 +88,8 @@ fn go_round<R: Threads + Sync, F: File, L: LineFormat, G: Gate, O: Sink>(
     requires empty { work.old.pending ≡ [] }
     ensures report { IfSome (F.bytes file.old) (λ bytes. IsReport (L.text form.now) layout.now bytes (parts_of lanes.old)
         (O.written out.old) (O.written out.new) result) }
-    ensures read { result ≡ End.Read → Rose (F.faults file.old) (F.faults file.new) }
-    ensures write { result ≡ End.Write → Rose (O.faults out.old) (O.faults out.new) }
+    ensures read { IsErrOf result IoFault.Read → Rose (F.faults file.old) (F.faults file.new) }
+    ensures write { IsErrOf result IoFault.Write → Rose (O.faults out.old) (O.faults out.new) }
     ensures keeps_out { KeepsSink O.Sink out.old out.new }
     ensures reads { F.reads file.new
         ≤ raised (F.reads file.old) (sum_by (λ part. part.1.size) (parts_of lanes.old)) }
@@ -104,8 +104,8 @@ fn go_round<R: Threads + Sync, F: File, L: LineFormat, G: Gate, O: Sink>(
             shared_from,
             ..*workers
         };
-        if let Outcome::Ends(end) = turn(&round, form, layout, file, lanes, work, &mut last, out) {
-            return end;
+        if let Outcome::Ends(end) = turn(&round, form, layout, file, lanes, work, &mut last, out)? {
+            return Ok(end);
         }
         shared_from = workers.shared_from;
     }

@@ -1,4 +1,4 @@
-ghost use Rattle.std.specs.Prelude.{◌≡◌, All, IfSome};
+ghost use Rattle.std.specs.Prelude.{◌≡◌, All, IfSome, IsErrOf, Ok};
 ghost use Rattle.trace_outside.specs.Causes.{Rose};
 ghost use Rattle.trace_outside.specs.Keeping.{KeepsFile, KeepsSink};
 ghost use Rattle.event_cursor.specs.Standing.{Stands};
@@ -13,9 +13,9 @@ use line_holes::LineFormat;
 use page_pool::Lane;
 use round_print::print_round;
 use std::thread::Threads;
-use time_merge::{End, horizon, make_moved_ready};
+use time_merge::{IoFault, horizon, make_moved_ready};
 use trace_base::Layout;
-use trace_outside::{File, Gate, Sink};
+use trace_outside::{Failed, File, Gate, Sink};
 
 /// One round: makes the lanes ready, forms lines, and prints those up to the horizon. It looks at the dirty lanes alone, and
 /// after it those are dirty that it printed lines of, or that are to be loaded.
@@ -28,24 +28,24 @@ pub(crate) fn turn<R: Threads + Sync, F: File, L: LineFormat, G: Gate, O: Sink>(
     work: &mut RoundWork,
     last: &mut Option<u64>,
     out: &mut O,
-) -> Outcome
+) -> Result<Outcome, IoFault>
     requires between { AreBetween (L.text form.now) layout.now lanes.old work.old }
-    ensures between { result ≡ Outcome.GoesOn → AreBetween (L.text form.now) layout.now lanes.new work.new }
-    ensures goes_on { result ≡ Outcome.GoesOn
+    ensures between { result ≡ Ok Outcome.GoesOn → AreBetween (L.text form.now) layout.now lanes.new work.new }
+    ensures goes_on { result ≡ Ok Outcome.GoesOn
         → CanGoOn F.File file.old file.new lanes.old lanes.new }
     ensures turned { IfSome (F.bytes file.old) (λ bytes. All (Stands bytes) lanes.old
         → IsTurned (L.text form.now) layout.now bytes
         (record { lanes = lanes.old; last = last.old; written = O.written out.old })
         (record { lanes = lanes.new; last = last.new; written = O.written out.new }) result) }
-    ensures read { result ≡ Outcome.Ends End.Read → Rose (F.faults file.old) (F.faults file.new) }
-    ensures write { result ≡ Outcome.Ends End.Write → Rose (O.faults out.old) (O.faults out.new) }
+    ensures read { IsErrOf result IoFault.Read → Rose (F.faults file.old) (F.faults file.new) }
+    ensures write { IsErrOf result IoFault.Write → Rose (O.faults out.old) (O.faults out.new) }
     ensures loaded { HasLoaded (F.bytes file.old) (F.size file.old) lanes.old (F.reads file.old)
         (F.reads file.new) }
     ensures keeps_out { KeepsSink O.Sink out.old out.new }
     ensures keeps { KeepsFile F.File file.old file.new }
 {
     let Ok(()) = make_moved_ready(file, lanes, work.moved.as_slice()) else {
-        return Outcome::Ends(End::Read);
+        return Err(IoFault::Read);
     };
     format_lanes(workers, form, layout.page, lanes, work.moved.as_slice());
     settle(lanes, work);
@@ -60,7 +60,7 @@ pub(crate) fn turn<R: Threads + Sync, F: File, L: LineFormat, G: Gate, O: Sink>(
         &mut work.pending,
         out,
     ) {
-        Ok(()) => outcome_at(least, lanes),
-        Err(_) => Outcome::Ends(End::Write),
+        Ok(()) => Ok(outcome_at(least, lanes)),
+        Err(Failed) => Err(IoFault::Write),
     }
 }

@@ -1,6 +1,5 @@
-use Rattle.std.proofs.Common.{◌≡◌, ◌-◌, ◌<◌, ◌≤◌, ℕ, Bool, List, length, ap, subst, sym, ◌∙◌}
+use Rattle.std.proofs.Common.{◌≡◌, ◌-◌, ◌≤◌, ℕ, Bool, List, length, ap, subst, sym, ◌∙◌}
 use Rattle.std.specs.List.{All}
-use Rattle.std.specs.Option.{IfSome}
 use Rattle.std.proofs.lemmas.List.{length-map, with_items_is}
 use Rattle.std.proofs.lemmas.List.Elements.{All-weaker}
 use Rattle.trace_base.specs.declared.layout.Layout.{Layout}
@@ -13,7 +12,7 @@ use Rattle.time_merge.specs.Reads.{all_unread}
 use Rattle.round_print.specs.Prints.{head_kept}
 use Rattle.round_print.specs.Rounds.{KeepsMarks}
 use Rattle.report_rounds.specs.Between.{IsBetween}
-use Rattle.report_rounds.proofs.LeastPlace.{follows, outcome_sound}
+use Rattle.report_rounds.proofs.LeastPlace.{follows}
 use Rattle.report_rounds.proofs.Reading.{unread_turned}
 use Rattle.report_rounds.proofs.Settling.{need_no_look}
 use Rattle.report_rounds.proofs.Turning.{IsFormed, formed_rising, now_all, now_less, now_parts, turned_told, failed_told}
@@ -83,7 +82,7 @@ returns-in-Ok-print_round-clause-goes_on g c = λ goes.
     c.format_lanes.ensures.count c.print_round.auto.lanes c.format_lanes.ensures.each c.in-Ok-print_round.ensures.round.printed.lanes in
     record {
       parts = now_parts (g.L.LineFormat.text c.args.form.now) c.args.layout.now (g.F.File.bytes c.args.file.now) c.args.lanes.now c.make_moved_ready.new.lanes c.format_lanes.new.lanes f c.horizon-known.result c.print_round.new.lanes c.print_round.auto.lanes c.in-Ok-print_round.ensures.round.printed.lanes;
-      less = now_less (g.L.LineFormat.text c.args.form.now) c.args.layout.now (g.F.File.bytes c.args.file.now) c.args.lanes.now c.make_moved_ready.new.lanes c.format_lanes.new.lanes f c.horizon-known.result c.print_round.new.lanes c.print_round.auto.lanes c.in-Ok-print_round.ensures.round.printed.lanes c.outcome_at.result c.horizon-known.ensures follow c.requires.between.rise c.requires.between.each goes;
+      less = now_less (g.L.LineFormat.text c.args.form.now) c.args.layout.now (g.F.File.bytes c.args.file.now) c.args.lanes.now c.make_moved_ready.new.lanes c.format_lanes.new.lanes f c.horizon-known.result c.print_round.new.lanes c.print_round.auto.lanes c.in-Ok-print_round.ensures.round.printed.lanes c.outcome_at.result c.horizon-known.ensures follow c.requires.between.rise c.requires.between.each (cc goes);
       reads = subst (λ (n : ℕ). g.F.File.reads c.make_moved_ready.new.file ≤ raised (g.F.File.reads c.args.file.now) (all - n)) (sym still) c.in-Ok.ensures.makes_ready.reads_done;
       unread = subst (λ (n : ℕ). n ≤ all) (sym still) c.in-Ok.ensures.makes_ready.loads.unread;
     }
@@ -100,22 +99,6 @@ returns-in-Ok-print_round-clause-turned g c =
     let follow = follows c.format_lanes.new.lanes c.print_round.new.lanes c.horizon-known.result c.horizon-known.ensures c.least-least.result
     (subst (λ (keys : List SlotKey). IsLeastAt keys c.least-least.result) c.settle.ensures.highs c.least-least.ensures.least) c.outcome_at.result c.outcome_at.ensures in
     turned_told (g.L.LineFormat.text c.args.form.now) c.args.layout.now (g.F.File.bytes c.args.file.now) c.args.lanes.now c.make_moved_ready.new.lanes c.format_lanes.new.lanes f c.horizon-known.result c.print_round.new.lanes c.print_round.auto.lanes c.in-Ok-print_round.ensures.round.printed.lanes c.outcome_at.result c.horizon-known.ensures follow c.requires.between.rise c.requires.between.each c.args.last.now c.print_round.new.last _ _ c.in-Ok-print_round.ensures.written c.in-Ok-print_round.ensures.round.printed.last
-
-pub returns-in-Ok-print_round-clause-read : goal.returns-in-Ok-print_round-clause-read
-returns-in-Ok-print_round-clause-read g c = λ end.
-    let slots : length c.settle.new.work.highs ≡ length c.print_round.new.lanes =
-    ap length c.settle.ensures.highs ∙ length-map c.format_lanes.new.lanes high_of ∙ sym c.print_round.auto.lanes in
-    let inside = subst (λ (n : ℕ). IfSome c.least-least.result (λ i. i < n)) slots c.least-least.ensures.inside in
-    let sound = outcome_sound c.print_round.new.lanes c.least-least.result c.outcome_at.result inside c.outcome_at.ensures in
-    absurd (sound.0 end)
-
-pub returns-in-Ok-print_round-clause-write : goal.returns-in-Ok-print_round-clause-write
-returns-in-Ok-print_round-clause-write g c = λ end.
-    let slots : length c.settle.new.work.highs ≡ length c.print_round.new.lanes =
-    ap length c.settle.ensures.highs ∙ length-map c.format_lanes.new.lanes high_of ∙ sym c.print_round.auto.lanes in
-    let inside = subst (λ (n : ℕ). IfSome c.least-least.result (λ i. i < n)) slots c.least-least.ensures.inside in
-    let sound = outcome_sound c.print_round.new.lanes c.least-least.result c.outcome_at.result inside c.outcome_at.ensures in
-    absurd (sound.1 end)
 
 pub returns-in-Err-clause-turned : goal.returns-in-Err-clause-turned
 returns-in-Err-clause-turned g c =
