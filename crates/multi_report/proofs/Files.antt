@@ -22,12 +22,9 @@ use Rattle.multi_report.specs.Reports.{AllReadTheirParts, AreSame}
 use Rattle.multi_report.proofs.Merging.{Fits, FitsFile, fits_of, mark, cut_of_rows, reached_merged}
 use Rattle.multi_report.proofs.FileRows.{rows_from}
 
--- a file is the same as itself, and so are several
+-- a file is the same as itself
 pub same_one : (s : SourceView) → IsSame s s
 same_one s = record { shown = refl; told = refl; size = refl; faults = omega arith; reads = omega arith }
-
-pub same_self : (xs : List SourceView) → AreSame xs xs
-same_self xs = record { count = refl; each = λ i d lt. same_one (get_or xs i d) }
 
 -- no more is due of any
 abbrev pub NoMoreDue : List SourceView → List SourceView → Type 0

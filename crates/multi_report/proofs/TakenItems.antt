@@ -1,5 +1,5 @@
 -- What comes next of a file, taken.
-use Rattle.std.proofs.Common.{◌≡◌, ℕ, ◌<◌, List, [], ◌∷◌, ◌++◌, length, get_or, set, map, Option, Some, refl, sym, ap, subst, ◌∙◌, arith, Ok, Err}
+use Rattle.std.proofs.Common.{◌≡◌, ℕ, ◌<◌, List, [], ◌∷◌, ◌++◌, length, get_or, set, map, Option, Some, refl, sym, ap, subst, ◌∙◌, arith, Result, Ok, Err}
 use Rattle.std.specs.Option.{IsSome, option_map, unwrap_or}
 use Rattle.std.specs.List.{All}
 use Rattle.std.proofs.lemmas.List.{get_or_default, get_or-map, map-set}
@@ -24,6 +24,8 @@ use Rattle.time_merge.proofs.Starting.{cut_of_rows as one_cut}
 use Rattle.tournament_tree.specs.declared.slot_key.SlotKey.{SlotKey}
 use Rattle.multi_report.specs.declared.taking.Taken.{Taken}
 use Rattle.multi_report.specs.declared.taking.Taken.TheVariants as took
+use Rattle.time_merge.specs.declared.ending.IoFault.{IoFault}
+use Rattle.time_merge.specs.declared.ending.IoFault.TheVariants as fault
 use Rattle.multi_report.specs.Order.{ShownFile, own_cut}
 use Rattle.multi_report.specs.Sources.{SourceView, IsKnown, IsReadied, IsSame, Keeps, bytes_of, due, shown_of, next_key, cut_left, left_in}
 use Rattle.multi_report.specs.Nexts.{IsLaneStepped}
@@ -142,7 +144,7 @@ cut_told a way i lanes d e same lt h = (
 -- how a file is left by what was taken of it
 module _ {T E : Type 0} (a b c : SourceView) (i : ℕ) (way way_now : OnWay) (lt : i < length a.lanes) (next : IsKnown a → IsNextLane (bytes_of a) a.lanes i) where
   pub taken_item : (v : T) (key : SlotKey) → IsLaneStepped a i b → Keeps b c → IsReadied b c → (IsKnown c → key ≡ next_key c)
-      → ((d : Lane) → PutsText {T = T} {E = E} (put_of a i d) way way_now (Ok v)) → TakenOf a way (took.Item key) c way_now
+      → ((d : Lane) → PutsText {T = T} {E = E} (put_of a i d) way way_now (Ok v)) → TakenOf a way (Ok (took.Item key)) c way_now
   taken_item v key s keeps readied key_is puts = record {
     same = same_used a b c i lt s keeps;
     goes = going_used a b c i s keeps readied;
@@ -151,7 +153,7 @@ module _ {T E : Type 0} (a b c : SourceView) (i : ℕ) (way way_now : OnWay) (lt
   }
 
   pub taken_read : (v : T) → IsLaneStepped a i b → Keeps b c → Rose b.faults c.faults
-      → ((d : Lane) → PutsText {T = T} {E = E} (put_of a i d) way way_now (Ok v)) → TakenOf a way took.Read c way_now
+      → ((d : Lane) → PutsText {T = T} {E = E} (put_of a i d) way way_now (Ok v)) → TakenOf a way (Err fault.Read) c way_now
   taken_read v s keeps rose puts = record {
     same = same_used a b c i lt s keeps;
     goes = tt;
@@ -159,7 +161,7 @@ module _ {T E : Type 0} (a b c : SourceView) (i : ℕ) (way way_now : OnWay) (lt
     taken = λ known. item_taken v a b c i way way_now lt (next known) s keeps known puts;
   }
 
-  pub taken_write : (v : E) → ((d : Lane) → PutsText {T = T} {E = E} (put_of a i d) way way_now (Err v)) → TakenOf a way took.Write a way_now
+  pub taken_write : (v : E) → ((d : Lane) → PutsText {T = T} {E = E} (put_of a i d) way way_now (Err v)) → TakenOf a way (Err fault.Write) a way_now
   taken_write v puts = record {
     same = same_one a;
     goes = tt;
@@ -168,7 +170,7 @@ module _ {T E : Type 0} (a b c : SourceView) (i : ℕ) (way way_now : OnWay) (lt
   }
 
 -- one of several
-pub taken_from : {S : Type 0} (f : S → SourceView) (sources : List S) (j : ℕ) (d new : S) (way way_now : OnWay) (result : Taken) → j < length sources
+pub taken_from : {S : Type 0} (f : S → SourceView) (sources : List S) (j : ℕ) (d new : S) (way way_now : OnWay) (result : Result Taken IoFault) → j < length sources
     → TakenOf (f (get_or sources j d)) way result (f new) way_now
     → TakenFrom (map f sources) j way result (map f (set sources j new)) way_now
 taken_from f sources j d new way way_now result lt taken = record {

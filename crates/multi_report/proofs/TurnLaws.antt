@@ -1,14 +1,13 @@
 -- One turn of a report of several files.
-use Rattle.std.proofs.Common.{◌≡◌, ℕ, ◌<◌, ◌≤◌, List, [], ◌∷◌, length, get_or, set, map, Option, Some, None, sym, ap, subst, ◌∙◌, arith, inl, inr, sum_by, get_or-set_same, get_or-set_other}
+use Rattle.std.proofs.Common.{◌≡◌, ℕ, ◌<◌, ◌≤◌, List, [], ◌∷◌, length, get_or, set, map, Option, Some, None, Result, Ok, Err, sym, ap, subst, ◌∙◌, arith, inl, inr, sum_by, get_or-set_same, get_or-set_other}
 use Rattle.std.specs.List.{All}
 use Rattle.std.proofs.lemmas.Bool.{cases_eq}
 use Rattle.std.proofs.lemmas.List.{length-map, length-set, map-set}
 use Rattle.std.proofs.lemmas.List.Elements.{All-get_or, All-set}
 use Rattle.std.proofs.lemmas.List.Sums.{sum_by-set, get_or-le-sum_by}
 use Rattle.std.proofs.Math.Seq.{map-set_same}
-use Rattle.trace_outside.specs.Causes.{Rose}
-use Rattle.trace_outside.specs.Pending.{Holds, OnWay}
-use Rattle.trace_outside.specs.Writing.{GainedPrefix}
+use Rattle.trace_outside.specs.Pending.{OnWay}
+use Rattle.trace_outside.specs.Writing.{Gained, GainedPrefix}
 use Rattle.subpage.specs.Arrangement.{Keyed, key_of, cpu_of}
 use Rattle.subpage.specs.declared.cut_place.CutPlace.{CutPlace}
 use Rattle.subpage.specs.CutPlaces.{cut_at}
@@ -19,20 +18,23 @@ use Rattle.tournament_tree.specs.declared.slot_key.SlotKey.{SlotKey}
 use Rattle.tournament_tree.specs.declared.slot_key.SlotKey.TheVariants.{Empty}
 use Rattle.tournament_tree.specs.Least.{from_time}
 use Rattle.tournament_tree.proofs.Ranks.{never_empty}
-use Rattle.multi_report.specs.declared.report.FilesEnd.{FilesEnd}
+use Rattle.time_merge.specs.declared.ending.IoFault.{IoFault}
+use Rattle.time_merge.specs.declared.ending.IoFault.TheVariants as io
 use Rattle.multi_report.specs.declared.report.FilesEnd.TheVariants as code
+use Rattle.multi_report.specs.declared.report.FilesFault.{FilesFault}
+use Rattle.multi_report.specs.declared.report.FilesFault.TheVariants as fault
 use Rattle.multi_report.specs.declared.taking.Taken.{Taken}
 use Rattle.multi_report.specs.declared.taking.Taken.TheVariants as took
 use Rattle.multi_report.specs.Order.{ShownFile, cut_in, in_file, cut_of_files}
 use Rattle.multi_report.specs.Sources.{SourceView, IsKnown, IsPrepared, IsSame, due, shown_of, next_key, to_come_of, work, cut_left}
 use Rattle.multi_report.specs.Pieces.{text_of}
-use Rattle.multi_report.specs.Reports.{AreSame, IsEnded, ReadRose, WriteRose, line_in, line_of, lines}
+use Rattle.multi_report.specs.Reports.{AreSame, IsEnded, WriteRose, line_in, line_of, lines}
 use Rattle.multi_report.specs.Taking.{ItemTaken, TakenFrom}
-use Rattle.multi_report.specs.Turns.{AreReadied, EndsWith, Going, IsTold, IsUnderway, lines_left, state_of}
+use Rattle.multi_report.specs.Turns.{AreReadied, Going, IsUnderway, lines_left, state_of}
 use Rattle.multi_report.proofs.FileRows.{file_next, file_cut, file_first, file_none, file_some}
 use Rattle.multi_report.proofs.OwnLayouts.{known_own}
 use Rattle.multi_report.proofs.Files.{no_cut, one_cut_is, same_one}
-use Rattle.multi_report.proofs.Going.{end_read, end_whole, line_at, put_one, put_stopped}
+use Rattle.multi_report.proofs.Going.{end_read, line_at, put_one, put_stopped, waiting_stopped, whole_gained}
 
 some_seen : (xs : List SourceView) (j : ℕ) → j < length xs → SourceView
 some_seen [] j lt = absurd (omega (arith, lt))
@@ -42,37 +44,29 @@ some_seen (x ∷ xs) j lt = x
 pub slot_of : {S : Type 0} (f : S → SourceView) (xs : List S) (keys : List SlotKey) (j : ℕ) → j < length keys → length keys ≡ length xs → j < length (map f xs)
 slot_of f xs keys j lt slots = omega (arith, lt, slots, length-map xs f)
 
--- what is told at an end
-pub told_write : (end result : FilesEnd) (before now : ℕ) → WriteRose end before now → IsTold end result before now → WriteRose result before now
-told_write end result before now own told = elim told [
-  | inl e ↦ subst (λ (r : FilesEnd). WriteRose r before now) (sym e) own
-  | inr e ↦ subst (λ (r : FilesEnd). WriteRose r before now) (sym e.0) e.1
-]
-
-pub rose_from : (result : FilesEnd) (first before now : ℕ) → first ≤ before → WriteRose result before now → WriteRose result first now
-rose_from code.Done first before now le rose = tt
-rose_from (code.Malformed source cut) first before now le rose = tt
-rose_from (code.Read source) first before now le rose = tt
-rose_from code.Write first before now le rose = omega (arith, le, rose)
-
-pub told_read : (end result : FilesEnd) (before now : ℕ) (first after : List SourceView) → ReadRose end first after → IsTold end result before now → ReadRose result first after
-told_read end result before now first after own told = elim told [
-  | inl e ↦ subst (λ (r : FilesEnd). ReadRose r first after) (sym e) own
-  | inr e ↦ subst (λ (r : FilesEnd). ReadRose r first after) (sym e.0) tt
-]
+-- a count that rose since a turn began rose since the report began
+pub rose_from : (why : FilesFault) (first before now : ℕ) → first ≤ before → WriteRose why before now → WriteRose why first now
+rose_from (fault.Read file) first before now le rose = tt
+rose_from fault.Write first before now le rose = omega (arith, le, rose)
 
 none_left : (sources : List SourceView) → to_come_of sources ≡ [] → lines_left sources ≡ []
 unfolding lines
 none_left sources e = ap (map (line_in (map shown_of sources))) e
 
 -- nothing comes of any file
-pub turn_done : (before : Option (List ℕ)) (whole : List (List ℕ)) (sources : List SourceView) (keys : List SlotKey) (old new : Option (List ℕ)) (waiting : List ℕ) (result : FilesEnd)
-    → IsLeastAt keys None
-    → ((b : Option (List ℕ)) (text : List ℕ) → Holds b old waiting text → EndsWith b new text code.Done result)
-    → IsUnderway before whole (state_of sources keys old waiting) → IsEnded whole (cut_of_files (map shown_of sources)) before new result
-turn_done before whole sources keys old new waiting result none ends under =
-    let law = file_none sources (subst (λ (ks : List SlotKey). IsLeastAt ks None) under.keys_are none) in
-    end_whole before whole (cut_of_files (map shown_of sources)) old new waiting (lines_left sources) code.Done result ends under.going (none_left sources law.0) (λ gained. (gained, no_cut sources (known_own sources under.known) law.1))
+pub turn_done : (before : Option (List ℕ)) (whole : List (List ℕ)) (sources : List SourceView) (keys : List SlotKey) (old new : Option (List ℕ)) (waiting : List ℕ)
+    → IsLeastAt keys None → Gained old new waiting
+    → IsUnderway before whole (state_of sources keys old waiting) → IsEnded whole (cut_of_files (map shown_of sources)) before new (Ok code.Done)
+turn_done before whole sources keys old new waiting none gained under =
+    let law = file_none sources (subst (λ (ks : List SlotKey). IsLeastAt ks None) under.keys_are none) in (
+      whole_gained before whole old new waiting (lines_left sources) gained under.going (none_left sources law.0),
+      no_cut sources (known_own sources under.known) law.1,
+    )
+
+-- and what waited could not be written
+pub done_stopped : (before : Option (List ℕ)) (whole : List (List ℕ)) (sources : List SourceView) (keys : List SlotKey) (old new : Option (List ℕ)) (waiting : List ℕ)
+    → GainedPrefix old new waiting → IsUnderway before whole (state_of sources keys old waiting) → GainedPrefix before new (text_of whole)
+done_stopped before whole sources keys old new waiting stopped under = waiting_stopped before whole old new waiting (lines_left sources) stopped under.going
 
 -- One of several files changed, and the others are as they were.
 module _ (sources : List SourceView) (j : ℕ) (lt : j < length sources) (way way_now : OnWay) where
@@ -84,13 +78,16 @@ module _ (sources : List SourceView) (j : ℕ) (lt : j < length sources) (way wa
     | inr other ↦ subst (R (get_or sources i e)) (sym (get_or-set_other sources j i one e other)) (self (get_or sources i e))
   ]
 
-  pub same_taken : (now : List SourceView) (result : Taken) → TakenFrom sources j way result now way_now → AreSame sources now
+  pub same_taken : (now : List SourceView) (result : Result Taken IoFault) → TakenFrom sources j way result now way_now → AreSame sources now
   same_taken now result from = subst (AreSame sources) (sym from.set) (record {
     count = length-set sources j from.one;
     each = λ i e inside. one_or_same IsSame from.one (λ x. (from.is x).same) same_one i e;
   })
 
-  pub readied_taken : (now : List SourceView) (key : SlotKey) → All IsPrepared sources → TakenFrom sources j way (took.Item key) now way_now → AreReadied sources now
+  pub taken_as : (now : List SourceView) (result same : Result Taken IoFault) → result ≡ same → TakenFrom sources j way result now way_now → TakenFrom sources j way same now way_now
+  taken_as now result same is from = subst (λ (r : Result Taken IoFault). TakenFrom sources j way r now way_now) is from
+
+  pub readied_taken : (now : List SourceView) (key : SlotKey) → All IsPrepared sources → TakenFrom sources j way (Ok (took.Item key)) now way_now → AreReadied sources now
   readied_taken now key prepared from =
       let goes = (from.is (some_seen sources j lt)).goes in
       subst (AreReadied sources) (sym from.set) (record {
@@ -98,19 +95,11 @@ module _ (sources : List SourceView) (j : ℕ) (lt : j < length sources) (way wa
         due = λ i e inside. one_or_same (λ a b. due b ≤ due a) from.one (λ x. (from.is x).goes.readied.due) (λ s. omega arith) i e;
       })
 
-  pub less_taken : (now : List SourceView) (key : SlotKey) → TakenFrom sources j way (took.Item key) now way_now → sum_by work now < sum_by work sources
+  pub less_taken : (now : List SourceView) (key : SlotKey) → TakenFrom sources j way (Ok (took.Item key)) now way_now → sum_by work now < sum_by work sources
   less_taken now key from =
       let d = some_seen sources j lt in
       let same : sum_by work now ≡ sum_by work (set sources j from.one) = ap (sum_by work) from.set in
       omega (arith, same, sum_by-set work sources j from.one d lt, (from.is d).goes.less, get_or-le-sum_by work sources j d lt)
-
-  pub rose_taken : (now : List SourceView) → TakenFrom sources j way took.Read now way_now → ReadRose (code.Read j) sources now
-  rose_taken now from = (
-    lt,
-    λ e.
-        subst (λ (ss : List SourceView). Rose (get_or sources j e).faults (get_or ss j e).faults) (sym from.set)
-        (subst (λ (s : SourceView). Rose (get_or sources j e).faults s.faults) (sym (get_or-set_same sources j from.one e lt)) (from.is e).read),
-  )
 
 module _ (before : Option (List ℕ)) (whole : List (List ℕ)) (sources : List SourceView) (keys : List SlotKey) (j : ℕ) (lt : j < length sources) (way way_now : OnWay) where
   abbrev d : SourceView
@@ -142,8 +131,12 @@ module _ (before : Option (List ℕ)) (whole : List (List ℕ)) (sources : List 
       ∙ ap (λ (gs : List ShownFile). piece ∷ map (line_in gs) (to_come_of after)) (sym all_shown) in
       put_one before whole way.written way_now.written way.waiting way_now.waiting piece (lines_left after) t.puts (subst (Going before whole way.written way.waiting) rest under.going)
 
+  -- nothing was put
+  going_still : way_now ≡ way → IsUnderway before whole (state_of sources keys way.written way.waiting) → Going before whole way_now.written way_now.waiting (lines_left sources)
+  going_still still under = subst (λ (w : OnWay). Going before whole w.written w.waiting (lines_left sources)) (sym still) under.going
+
   -- an item was taken
-  pub turn_item : (now : List SourceView) (here : Option ℕ) (key : SlotKey) → IsLeastOf keys j here → TakenFrom sources j way (took.Item key) now way_now
+  pub turn_item : (now : List SourceView) (here : Option ℕ) (key : SlotKey) → IsLeastOf keys j here → TakenFrom sources j way (Ok (took.Item key)) now way_now
       → IsUnderway before whole (state_of sources keys way.written way.waiting) → IsUnderway before whole (state_of now (set keys j key) way_now.written way_now.waiting)
   turn_item now here key least from under =
       let is = from.is d in
@@ -157,16 +150,25 @@ module _ (before : Option (List ℕ)) (whole : List (List ℕ)) (sources : List 
       })
 
   -- an item was taken, and then a read failed
-  pub turn_read : (now : List SourceView) (here : Option ℕ) (new : Option (List ℕ)) (result : FilesEnd) → IsLeastOf keys j here → TakenFrom sources j way took.Read now way_now
-      → ((b : Option (List ℕ)) (text : List ℕ) → Holds b way_now.written way_now.waiting text → EndsWith b new text (code.Read j) result)
-      → IsUnderway before whole (state_of sources keys way.written way.waiting) → IsEnded whole (cut_of_files (map shown_of now)) before new result
-  turn_read now here new result least from ends under =
+  pub turn_read : (now : List SourceView) (here : Option ℕ) (new : Option (List ℕ)) → IsLeastOf keys j here → TakenFrom sources j way (Err io.Read) now way_now
+      → Gained way_now.written new way_now.waiting
+      → IsUnderway before whole (state_of sources keys way.written way.waiting) → IsEnded whole (cut_of_files (map shown_of now)) before new (Err (fault.Read j))
+  turn_read now here new least from gained under =
       let is = from.is d in
-      end_read before whole (cut_of_files (map shown_of now)) way_now.written new way_now.waiting (lines_left (set sources j from.one)) j result ends
+      end_read before whole (cut_of_files (map shown_of now)) way_now.written new way_now.waiting (lines_left (set sources j from.one)) j gained
+      (going_one from.one here least under is.same.shown (is.taken (one_known under)))
+
+  -- and what waited could not be written
+  pub read_stopped : (now : List SourceView) (here : Option ℕ) (new : Option (List ℕ)) → IsLeastOf keys j here → TakenFrom sources j way (Err io.Read) now way_now
+      → GainedPrefix way_now.written new way_now.waiting
+      → IsUnderway before whole (state_of sources keys way.written way.waiting) → GainedPrefix before new (text_of whole)
+  read_stopped now here new least from stopped under =
+      let is = from.is d in
+      waiting_stopped before whole way_now.written new way_now.waiting (lines_left (set sources j from.one)) stopped
       (going_one from.one here least under is.same.shown (is.taken (one_known under)))
 
   -- its line could not be written
-  pub turn_stopped : (now : List SourceView) (here : Option ℕ) → IsLeastOf keys j here → TakenFrom sources j way took.Write now way_now
+  pub turn_stopped : (now : List SourceView) (here : Option ℕ) → IsLeastOf keys j here → TakenFrom sources j way (Err io.Write) now way_now
       → IsUnderway before whole (state_of sources keys way.written way.waiting) → GainedPrefix before way_now.written (text_of whole)
   unfolding lines
   turn_stopped now here least from under =
@@ -179,23 +181,31 @@ module _ (before : Option (List ℕ)) (whole : List (List ℕ)) (sources : List 
       (subst (Going before whole way.written way.waiting) rest under.going)
 
   -- the cut of a file
-  pub turn_cut : (now : List SourceView) (here : Option ℕ) (place : CutPlace) (new : Option (List ℕ)) (result : FilesEnd) → IsLeastOf keys j here
-      → TakenFrom sources j way (took.Cut place) now way_now
-      → ((b : Option (List ℕ)) (text : List ℕ) → Holds b way_now.written way_now.waiting text → EndsWith b new text (code.Malformed j place) result)
-      → IsUnderway before whole (state_of sources keys way.written way.waiting) → IsEnded whole (cut_of_files (map shown_of now)) before new result
-  turn_cut now here place new result least from ends under =
+  pub turn_cut : (now : List SourceView) (here : Option ℕ) (place : CutPlace) (new : Option (List ℕ)) → IsLeastOf keys j here
+      → TakenFrom sources j way (Ok (took.Cut place)) now way_now → Gained way_now.written new way_now.waiting
+      → IsUnderway before whole (state_of sources keys way.written way.waiting) → IsEnded whole (cut_of_files (map shown_of now)) before new (Ok (code.Malformed j place))
+  turn_cut now here place new least from gained under =
       let is = from.is d in
       let t = is.taken (one_known under) in
       let cut : Cut = cut_at t.1.0 place in
       let law = file_cut sources j here d cut lt (least_here here least under) t.0.none t.1.1 in
       let found : cut_of_files (map shown_of sources) ≡ Some (cut_in j cut) = one_cut_is sources j d cut (known_own sources under.known) lt law.1 t.1.1 in
       let all_shown : map shown_of now ≡ map shown_of sources = ap (map shown_of) from.set ∙ same_givens from.one is.same.shown in
-      subst (λ (gs : List ShownFile). IsEnded whole (cut_of_files gs) before new result) (sym all_shown)
-      (end_whole before whole (cut_of_files (map shown_of sources)) way_now.written new way_now.waiting (lines_left sources) (code.Malformed j place) result ends
-      (subst (λ (w : OnWay). Going before whole w.written w.waiting (lines_left sources)) (sym t.0.nothing_put) under.going) (none_left sources law.0) (λ gained. (gained, (t.1.0, found))))
+      subst (λ (gs : List ShownFile). IsEnded whole (cut_of_files gs) before new (Ok (code.Malformed j place))) (sym all_shown) (
+        whole_gained before whole way_now.written new way_now.waiting (lines_left sources) gained (going_still t.0.nothing_put under) (none_left sources law.0),
+        (t.1.0, found),
+      )
+
+  -- and what waited could not be written
+  pub cut_stopped : (now : List SourceView) (place : CutPlace) (new : Option (List ℕ)) → TakenFrom sources j way (Ok (took.Cut place)) now way_now
+      → GainedPrefix way_now.written new way_now.waiting
+      → IsUnderway before whole (state_of sources keys way.written way.waiting) → GainedPrefix before new (text_of whole)
+  cut_stopped now place new from stopped under =
+      let t = (from.is d).taken (one_known under) in
+      waiting_stopped before whole way_now.written new way_now.waiting (lines_left sources) stopped (going_still t.0.nothing_put under)
 
   -- nothing is left of the file of which the least comes next: that is not so
-  pub turn_nothing : (now : List SourceView) (here : Option ℕ) → IsLeastOf keys j here → TakenFrom sources j way took.Done now way_now
+  pub turn_nothing : (now : List SourceView) (here : Option ℕ) → IsLeastOf keys j here → TakenFrom sources j way (Ok took.Done) now way_now
       → IsUnderway before whole (state_of sources keys way.written way.waiting) → ⊥
   turn_nothing now here least from under =
       let s = get_or sources j d in

@@ -1,12 +1,14 @@
 -- What a report of several files writes, and how it ends.
 -- Source: trace-cmd-report(1), which puts a file's name before each of its lines where there are several.
-use Rattle.std.specs.Prelude.{◌≡◌, ◌<◌, ℕ, ◌++◌, List, [], ◌∷◌, codes, length, map, take, Option, Some, None, option_map, unwrap_or, slice_get, slice_index_or}
+use Rattle.std.specs.Prelude.{◌≡◌, ◌<◌, ℕ, ◌++◌, List, [], ◌∷◌, codes, length, map, take, Option, Some, None, option_map, unwrap_or, slice_get, slice_index_or, Result, Ok, Err}
 use Rattle.std.specs.Fmt.{decimal}
 use Rattle.trace_outside.specs.Causes.{Rose}
 use Rattle.trace_outside.specs.Writing.{Gained, GainedPrefix}
 use Rattle.subpage.specs.Arrangement.{Keyed}
 use Rattle.multi_report.specs.declared.report.FilesEnd.{FilesEnd}
 use Rattle.multi_report.specs.declared.report.FilesEnd.TheVariants as code
+use Rattle.multi_report.specs.declared.report.FilesFault.{FilesFault}
+use Rattle.multi_report.specs.declared.report.FilesFault.TheVariants as fault
 use Rattle.subpage.specs.CutPlaces.{cut_at}
 use Rattle.multi_report.specs.Order.{ShownFile, FileItem, FileCut, cut_of_files, reached}
 use Rattle.multi_report.specs.Pieces.{text_of}
@@ -42,16 +44,16 @@ pieces files = map head_line files ++ lines files (reached files)
 
 -- Done and Malformed: all pieces were written, and there is no cut, or the least one is this. Read: the first of them.
 -- Write: a prefix of their text.
-abbrev pub IsEnded : List (List ℕ) → Option FileCut → Option (List ℕ) → Option (List ℕ) → FilesEnd → Type 0
-IsEnded whole cut old new code.Done = Gained old new (text_of whole) × (cut ≡ None)
-IsEnded whole cut old new (code.Malformed source place) =
+abbrev pub IsEnded : List (List ℕ) → Option FileCut → Option (List ℕ) → Option (List ℕ) → Result FilesEnd FilesFault → Type 0
+IsEnded whole cut old new (Ok code.Done) = Gained old new (text_of whole) × (cut ≡ None)
+IsEnded whole cut old new (Ok (code.Malformed source place)) =
     Gained old new (text_of whole)
     × ((key : Option ℕ) × (cut ≡ Some (record { file = source; cut = cut_at key place })))
-IsEnded whole cut old new (code.Read source) = (count : ℕ) × Gained old new (text_of (take count whole))
-IsEnded whole cut old new code.Write = GainedPrefix old new (text_of whole)
+IsEnded whole cut old new (Err (fault.Read file)) = (count : ℕ) × Gained old new (text_of (take count whole))
+IsEnded whole cut old new (Err fault.Write) = GainedPrefix old new (text_of whole)
 
 -- what a report of files writes after what was written before
-abbrev pub IsFilesReport : List ShownFile → Option (List ℕ) → Option (List ℕ) → FilesEnd → Type 0
+abbrev pub IsFilesReport : List ShownFile → Option (List ℕ) → Option (List ℕ) → Result FilesEnd FilesFault → Type 0
 IsFilesReport files old new end = IsEnded (pieces files) (cut_of_files files) old new end
 
 -- They are the same files in the same order, and their counts are as a report may leave them.
@@ -65,14 +67,12 @@ AllReadTheirParts before now =
     (i : ℕ) (d : SourceView) → i < length before → ReadsItsParts (slice_index_or before i d) (slice_index_or now i d)
 
 -- a fault of reading is one of the file that is told
-abbrev pub ReadRose : FilesEnd → List SourceView → List SourceView → Type 0
-ReadRose code.Done before now = Unit {0}
-ReadRose (code.Malformed source cut) before now = Unit {0}
-ReadRose (code.Read source) before now =
-    (source < length before) × ((d : SourceView) → Rose (slice_index_or before source d).faults (slice_index_or now source d).faults)
-ReadRose code.Write before now = Unit {0}
+abbrev pub ReadRose : FilesFault → List SourceView → List SourceView → Type 0
+ReadRose (fault.Read file) before now =
+    (file < length before) × ((d : SourceView) → Rose (slice_index_or before file d).faults (slice_index_or now file d).faults)
+ReadRose fault.Write before now = Unit {0}
 
 -- a fault of writing is told only where the count rose
-abbrev pub WriteRose : FilesEnd → ℕ → ℕ → Type 0
-WriteRose code.Write before now = Rose before now
-WriteRose end before now = Unit {0}
+abbrev pub WriteRose : FilesFault → ℕ → ℕ → Type 0
+WriteRose (fault.Read file) before now = Unit {0}
+WriteRose fault.Write before now = Rose before now

@@ -1,12 +1,10 @@
 -- A report of files on its way, turn after turn.
-use Rattle.std.specs.Prelude.{◌≡◌, ◌<◌, ◌≤◌, ◌⊎◌, ◌++◌, ℕ, List, length, map, slice_index_or, Option, Some, None}
+use Rattle.std.specs.Prelude.{◌≡◌, ◌<◌, ◌≤◌, ◌++◌, ℕ, List, length, map, slice_index_or, Option, Some, None, Result, Ok, Err}
 use Rattle.std.specs.List.{All}
 use Rattle.tournament_tree.specs.declared.slot_key.SlotKey.{SlotKey}
-use Rattle.trace_outside.specs.Causes.{Rose}
 use Rattle.trace_outside.specs.Pending.{Holds}
-use Rattle.trace_outside.specs.Writing.{Gained, GainedPrefix}
 use Rattle.multi_report.specs.declared.report.FilesEnd.{FilesEnd}
-use Rattle.multi_report.specs.declared.report.FilesEnd.TheVariants as code
+use Rattle.multi_report.specs.declared.report.FilesFault.{FilesFault}
 use Rattle.multi_report.specs.Order.{cut_of_files}
 use Rattle.multi_report.specs.Sources.{SourceView, IsKnown, IsPrepared, due, shown_of, next_key, to_come_of}
 use Rattle.multi_report.specs.Pieces.{text_of}
@@ -39,21 +37,18 @@ pub record IsUnderway (before : Option (List ℕ)) (whole : List (List ℕ)) (st
   pub keys_are : state.keys ≡ map next_key state.sources
   pub going : Going before whole state.written state.waiting (lines_left state.sources)
 
--- it ended, or goes on
-abbrev pub IsTurned : Option (List ℕ) → List (List ℕ) → ReportState → Option FilesEnd → Type 0
-IsTurned before whole state (Some end) = IsEnded whole (cut_of_files (map shown_of state.sources)) before state.written end
-IsTurned before whole state None = IsUnderway before whole state
+-- it is on its way, or a fault stopped it
+abbrev pub HasBegun : Option (List ℕ) → List (List ℕ) → ReportState → Result Unit FilesFault → Type 0
+HasBegun before whole state (Ok begun) = IsUnderway before whole state
+HasBegun before whole state (Err why) = IsEnded whole (cut_of_files (map shown_of state.sources)) before state.written (Err why)
+
+-- it goes on, it ended, or a fault stopped it
+abbrev pub IsTurned : Option (List ℕ) → List (List ℕ) → ReportState → Result (Option FilesEnd) FilesFault → Type 0
+IsTurned before whole state (Ok None) = IsUnderway before whole state
+IsTurned before whole state (Ok (Some end)) = IsEnded whole (cut_of_files (map shown_of state.sources)) before state.written (Ok end)
+IsTurned before whole state (Err why) = IsEnded whole (cut_of_files (map shown_of state.sources)) before state.written (Err why)
 
 -- The files are ready to be gone on with, and what was read of them is not to be read again.
 pub record AreReadied (before now : List SourceView) : Type 0 where
   pub prepared : All IsPrepared now
   pub due : (i : ℕ) (d : SourceView) → i < length before → due (slice_index_or now i d) ≤ due (slice_index_or before i d)
-
--- an end with what waits written, or a write failed
-abbrev pub EndsWith : Option (List ℕ) → Option (List ℕ) → List ℕ → FilesEnd → FilesEnd → Type 0
-EndsWith before now text end result =
-    ((result ≡ end) × Gained before now text) ⊎ ((result ≡ code.Write) × GainedPrefix before now text)
-
--- it is answered, or that a write failed
-abbrev pub IsTold : FilesEnd → FilesEnd → ℕ → ℕ → Type 0
-IsTold end result before now = (result ≡ end) ⊎ ((result ≡ code.Write) × Rose before now)

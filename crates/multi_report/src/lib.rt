@@ -14,5 +14,5 @@ mod source;
 mod sources;
 mod taking;
 
-pub use report::{FilesEnd, report_files};
+pub use report::{FilesEnd, FilesFault, report_files};
 pub use source::Source;

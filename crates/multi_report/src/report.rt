@@ -1,9 +1,9 @@
-ghost use Rattle.std.specs.Prelude.{◌≡◌, ◌≤◌, ◌<◌, [], List, ℕ, Option, All, length, map, IfSome, IfNone, IsSome, sum_by};
+ghost use Rattle.std.specs.Prelude.{◌≡◌, ◌≤◌, ◌<◌, [], List, ℕ, Option, All, length, map, IfErr, IfNone, IfOk, IsSome, OnOk, sum_by};
 ghost use Rattle.trace_outside.specs.Keeping.{KeepsSink};
-ghost use Rattle.trace_outside.specs.Pending.{Holds};
+ghost use Rattle.multi_report.specs.declared.report.FilesFault.TheVariants.{Write};
 ghost use Rattle.multi_report.specs.Reports.{AllReadTheirParts, AreSame, IsFilesReport, ReadRose, WriteRose, pieces};
 ghost use Rattle.multi_report.specs.Sources.{HasRoom, IsFreshSource, IsPrepared, shown_of, seen, work};
-ghost use Rattle.multi_report.specs.Turns.{AreReadied, EndsWith, IsTold, IsTurned, IsUnderway, state_of};
+ghost use Rattle.multi_report.specs.Turns.{AreReadied, HasBegun, IsTurned, IsUnderway, state_of};
 
 use crate::printing::put_heads;
 use crate::source::Source;
@@ -11,32 +11,37 @@ use crate::sources::{know_layouts, make_sources_ready};
 use crate::taking::{Taken, take_from};
 use line_holes::LineFormat;
 use subpage::CutPlace;
+use thiserror::Error;
+use time_merge::IoFault;
 use tournament_tree::TournamentTree;
 use trace_outside::{Failed, File, Pending, Sink};
 
-/// How a report of several files ends.
+/// How a report of several files ends that no fault stops.
 #[derive(Clone, Copy, Debug, PartialEq, Eq)]
 pub enum FilesEnd {
     /// All items were used up.
     Done,
     /// The items end before this malformed sub-buffer of this file.
     Malformed { source: u32, cut: CutPlace },
+}
+
+/// What stops a report of several files.
+#[derive(Clone, Copy, Debug, PartialEq, Eq, Error)]
+pub enum FilesFault {
     /// A read of this file failed.
-    Read { source: u32 },
+    #[error("read of file {file} failed")]
+    Read { file: u32 },
     /// A write failed.
+    #[error("write failed")]
     Write,
 }
 
-/// Writes what waits at an end.
-fn end_with<O: Sink>(end: FilesEnd, pending: &mut Pending, out: &mut O) -> FilesEnd
-    ensures ended { (before : Option (List ℕ)) (text : List ℕ) → Holds before (O.written out.old) pending.old text
-        → EndsWith before (O.written out.new) text end result }
-    ensures told { IsTold end result (O.faults out.old) (O.faults out.new) }
-    ensures keeps_out { KeepsSink O.Sink out.old out.new }
-{
-    match pending.flush(out) {
-        Ok(()) => end,
-        Err(Failed) => FilesEnd::Write,
+/// What fails by itself is a write: a read tells its file.
+impl From<Failed> for FilesFault {
+    ghost from_gives = { λ failed fault. fault ≡ Write };
+
+    fn from(_failed: Failed) -> FilesFault {
+        FilesFault::Write
     }
 }
 
@@ -46,30 +51,31 @@ fn begin<F: File, L: LineFormat, O: Sink>(
     nexts: &mut TournamentTree,
     pending: &mut Pending,
     out: &mut O,
-) -> Option<FilesEnd>
+) -> Result<(), FilesFault>
     requires few { length sources.old ≤ 8 }
     requires fresh { All IsFreshSource (map (seen F.File L.text) sources.old) }
     requires slots { length nexts.old ≡ length sources.old }
     requires empty { pending.old ≡ [] }
     ensures slots { length nexts.new ≡ length nexts.old }
     ensures same { AreSame (map (seen F.File L.text) sources.old) (map (seen F.File L.text) sources.new) }
-    ensures readied { IfNone result
+    ensures readied { OnOk result
         (AreReadied (map (seen F.File L.text) sources.old) (map (seen F.File L.text) sources.new)) }
     ensures turned { All (λ source. IsSome source.told) (map (seen F.File L.text) sources.old)
-        → IsTurned (O.written out.old) (pieces (map shown_of (map (seen F.File L.text) sources.old)))
+        → HasBegun (O.written out.old) (pieces (map shown_of (map (seen F.File L.text) sources.old)))
         (state_of (map (seen F.File L.text) sources.new) nexts.new (O.written out.new) pending.new) result }
-    ensures read { IfSome result (λ end. ReadRose end (map (seen F.File L.text) sources.old)
+    ensures read { IfErr result (λ fault. ReadRose fault (map (seen F.File L.text) sources.old)
         (map (seen F.File L.text) sources.new)) }
-    ensures write { IfSome result (λ end. WriteRose end (O.faults out.old) (O.faults out.new)) }
+    ensures write { IfErr result (λ fault. WriteRose fault (O.faults out.old) (O.faults out.new)) }
     ensures keeps_out { KeepsSink O.Sink out.old out.new }
 {
     know_layouts(sources);
-    match put_heads(sources, pending, out) {
-        Ok(()) => match make_sources_ready(sources, nexts) {
-            None => None,
-            Some(j) => Some(end_with(FilesEnd::Read { source: j as u32 }, pending, out)),
-        },
-        Err(Failed) => Some(FilesEnd::Write),
+    put_heads(sources, pending, out)?;
+    match make_sources_ready(sources, nexts) {
+        None => Ok(()),
+        Some(j) => {
+            pending.flush(out)?;
+            Err(FilesFault::Read { file: j as u32 })
+        }
     }
 }
 
@@ -81,7 +87,7 @@ fn turn<F: File, L: LineFormat, O: Sink>(
     buffer: &mut [u8],
     pending: &mut Pending,
     out: &mut O,
-) -> Option<FilesEnd>
+) -> Result<Option<FilesEnd>, FilesFault>
     requires few { length sources.old ≤ 8 }
     requires prepared { All IsPrepared (map (seen F.File L.text) sources.old) }
     requires room { All (HasRoom (length buffer.old)) (map (seen F.File L.text) sources.old) }
@@ -89,34 +95,41 @@ fn turn<F: File, L: LineFormat, O: Sink>(
     ensures long { length buffer.new ≡ length buffer.old }
     ensures slots { length nexts.new ≡ length nexts.old }
     ensures same { AreSame (map (seen F.File L.text) sources.old) (map (seen F.File L.text) sources.new) }
-    ensures readied { IfNone result
-        (AreReadied (map (seen F.File L.text) sources.old) (map (seen F.File L.text) sources.new)) }
-    ensures less { IfNone result (sum_by work (map (seen F.File L.text) sources.new)
-        < sum_by work (map (seen F.File L.text) sources.old)) }
+    ensures readied { IfOk result (λ end. IfNone end
+        (AreReadied (map (seen F.File L.text) sources.old) (map (seen F.File L.text) sources.new))) }
+    ensures less { IfOk result (λ end. IfNone end (sum_by work (map (seen F.File L.text) sources.new)
+        < sum_by work (map (seen F.File L.text) sources.old))) }
     ensures turned { (before : Option (List ℕ)) (whole : List (List ℕ))
         → IsUnderway before whole (state_of (map (seen F.File L.text) sources.old) nexts.old (O.written out.old) pending.old)
         → IsTurned before whole (state_of (map (seen F.File L.text) sources.new) nexts.new (O.written out.new) pending.new) result }
-    ensures read { IfSome result (λ end. ReadRose end (map (seen F.File L.text) sources.old)
+    ensures read { IfErr result (λ fault. ReadRose fault (map (seen F.File L.text) sources.old)
         (map (seen F.File L.text) sources.new)) }
-    ensures write { IfSome result (λ end. WriteRose end (O.faults out.old) (O.faults out.new)) }
+    ensures write { IfErr result (λ fault. WriteRose fault (O.faults out.old) (O.faults out.new)) }
     ensures keeps_out { KeepsSink O.Sink out.old out.new }
 {
     let Some(j) = nexts.least() else {
-        return Some(end_with(FilesEnd::Done, pending, out));
+        pending.flush(out)?;
+        return Ok(Some(FilesEnd::Done));
     };
-    let source = j as u32;
     match take_from(sources, j, buffer, pending, out) {
-        Taken::Item(key) => {
+        Ok(Taken::Item(key)) => {
             nexts.set(j, key);
-            None
+            Ok(None)
         }
-        Taken::Cut(cut) => {
-            let end = FilesEnd::Malformed { source, cut };
-            Some(end_with(end, pending, out))
+        Ok(Taken::Cut(cut)) => {
+            let source = j as u32;
+            pending.flush(out)?;
+            Ok(Some(FilesEnd::Malformed { source, cut }))
         }
-        Taken::Done => Some(end_with(FilesEnd::Done, pending, out)),
-        Taken::Read => Some(end_with(FilesEnd::Read { source }, pending, out)),
-        Taken::Write => Some(FilesEnd::Write),
+        Ok(Taken::Done) => {
+            pending.flush(out)?;
+            Ok(Some(FilesEnd::Done))
+        }
+        Err(IoFault::Read) => {
+            pending.flush(out)?;
+            Err(FilesFault::Read { file: j as u32 })
+        }
+        Err(IoFault::Write) => Err(FilesFault::Write),
     }
 }
 
@@ -134,7 +147,7 @@ pub fn report_files<F: File, L: LineFormat, O: Sink>(
     buffer: &mut [u8],
     pending: &mut Pending,
     out: &mut O,
-) -> FilesEnd
+) -> Result<FilesEnd, FilesFault>
     requires few { length sources.old ≤ 8 }
     requires fresh { All IsFreshSource (map (seen F.File L.text) sources.old) }
     requires room { All (HasRoom (length buffer.old)) (map (seen F.File L.text) sources.old) }
@@ -143,18 +156,17 @@ pub fn report_files<F: File, L: LineFormat, O: Sink>(
     ensures report { All (λ source. IsSome source.told) (map (seen F.File L.text) sources.old)
         → IsFilesReport (map shown_of (map (seen F.File L.text) sources.old))
         (O.written out.old) (O.written out.new) result }
-    ensures read { ReadRose result (map (seen F.File L.text) sources.old) (map (seen F.File L.text) sources.new) }
-    ensures write { WriteRose result (O.faults out.old) (O.faults out.new) }
+    ensures read { IfErr result (λ fault. ReadRose fault (map (seen F.File L.text) sources.old)
+        (map (seen F.File L.text) sources.new)) }
+    ensures write { IfErr result (λ fault. WriteRose fault (O.faults out.old) (O.faults out.new)) }
     ensures reads { AllReadTheirParts (map (seen F.File L.text) sources.old) (map (seen F.File L.text) sources.new) }
     ensures same { AreSame (map (seen F.File L.text) sources.old) (map (seen F.File L.text) sources.new) }
     ensures keeps_out { KeepsSink O.Sink out.old out.new }
 {
-    if let Some(end) = begin(sources, nexts, pending, out) {
-        return end;
-    }
+    begin(sources, nexts, pending, out)?;
     loop {
-        if let Some(end) = turn(sources, nexts, buffer, pending, out) {
-            return end;
+        if let Some(end) = turn(sources, nexts, buffer, pending, out)? {
+            return Ok(end);
         }
     }
 }

@@ -8,7 +8,7 @@ use crate::printing::put_item;
 use crate::source::{Source, make_source_ready, use_item};
 use line_holes::LineFormat;
 use subpage::CutPlace;
-use time_merge::LaneNext;
+use time_merge::{IoFault, LaneNext};
 use tournament_tree::SlotKey;
 use trace_outside::{Failed, File, Pending, Sink};
 
@@ -21,19 +21,16 @@ pub(crate) enum Taken {
     Cut(CutPlace),
     /// Nothing: all were used up.
     Done,
-    /// Its first item, whose line was put. Then a read failed.
-    Read,
-    /// Its first item, whose line could not be written.
-    Write,
 }
 
-/// Puts the line of a file's first item and uses the item up. The file's lanes are ready.
+/// Puts the line of a file's first item and uses the item up. The file's lanes are ready. Where a read fails the line was
+/// put, and the item used up.
 fn take_next<F: File, L: LineFormat, O: Sink>(
     source: &mut Source<'_, F, L>,
     buffer: &mut [u8],
     pending: &mut Pending,
     out: &mut O,
-) -> Taken
+) -> Result<Taken, IoFault>
     requires prepared { IsPrepared (seen F.File L.text source.old) }
     requires room { HasRoom (length buffer.old) (seen F.File L.text source.old) }
     ensures long { length buffer.new ≡ length buffer.old }
@@ -47,20 +44,20 @@ fn take_next<F: File, L: LineFormat, O: Sink>(
             Ok(()) => {
                 use_item(source, i);
                 match make_source_ready(source) {
-                    Ok(key) => Taken::Item(key),
-                    Err(Failed) => Taken::Read,
+                    Ok(key) => Ok(Taken::Item(key)),
+                    Err(Failed) => Err(IoFault::Read),
                 }
             }
-            Err(Failed) => Taken::Write,
+            Err(Failed) => Err(IoFault::Write),
         },
         LaneNext::Cut(i) => {
             let lanes = source.lanes.all();
-            Taken::Cut(CutPlace {
+            Ok(Taken::Cut(CutPlace {
                 cpu: lanes[i].cpu,
                 page: lanes[i].cursor.next,
-            })
+            }))
         }
-        LaneNext::Done => Taken::Done,
+        LaneNext::Done => Ok(Taken::Done),
     }
 }
 
@@ -71,7 +68,7 @@ pub(crate) fn take_from<F: File, L: LineFormat, O: Sink>(
     buffer: &mut [u8],
     pending: &mut Pending,
     out: &mut O,
-) -> Taken
+) -> Result<Taken, IoFault>
     requires inside { j < length sources.old }
     requires prepared { All IsPrepared (map (seen F.File L.text) sources.old) }
     requires room { All (HasRoom (length buffer.old)) (map (seen F.File L.text) sources.old) }
