@@ -1,5 +1,5 @@
 -- One file more in the folder, and the end of a split.
-use Rattle.std.proofs.Common.{◌≡◌, ℕ, zero, suc, ◌+◌, ◌-◌, ◌*◌, ◌^◌, ◌<◌, ◌≤◌, Bool, true, false, ◌&&◌, not, if◌then◌else◌, List, [], ◌∷◌, ◌++◌, length, drop, map, Option, Some, None, Err, refl, sym, ap, subst, ◌∙◌, arith}
+use Rattle.std.proofs.Common.{◌≡◌, ℕ, zero, suc, ◌+◌, ◌-◌, ◌*◌, ◌^◌, ◌<◌, ◌≤◌, Bool, true, false, ◌&&◌, not, if◌then◌else◌, List, [], ◌∷◌, ◌++◌, length, drop, map, Option, Some, None, Result, Ok, Err, refl, sym, ap, subst, ◌∙◌, arith}
 use Rattle.std.specs.Option.{IfSome}
 use Rattle.std.specs.List.{All, take_while}
 use Rattle.std.specs.FinMap.{insert}
@@ -32,6 +32,8 @@ use Rattle.time_merge.proofs.LaneLaws.{after_above}
 use Rattle.time_merge.proofs.Starting.{fresh_stands}
 use Rattle.time_merge.specs.declared.ending.End.{End}
 use Rattle.time_merge.specs.declared.ending.End.TheVariants as code
+use Rattle.time_merge.specs.declared.ending.IoFault.{IoFault}
+use Rattle.time_merge.specs.declared.ending.IoFault.TheVariants as fault
 use Rattle.word_values.specs.declared.moment.Moment.{Moment}
 use Rattle.split_pieces.specs.declared.rules.Rules.{Rules}
 use Rattle.split_pieces.specs.Moments.{is_past, is_before}
@@ -62,6 +64,7 @@ use Rattle.split_tool.proofs.FileAfterFile.{goes_on, ends as no_files, fewer_lef
 use Rattle.split_tool.proofs.Owning.{IsAfter}
 use Rattle.split_tool.proofs.Preparing.{left_still, same_cpus}
 use Rattle.split_tool.proofs.Flat.{Kept, groups_kept, parts_kept}
+use Rattle.split_tool.proofs.Packing.{never_fault}
 use Rattle.split_tool.proofs.Tables.{IsBelow, IsFrom}
 use Rattle.split_tool.proofs.Storing.{Stages, stages_none, stages_more, all_stored, some_stored, first_stored, unmade_since}
 use Rattle.split_passes.proofs.PieceLaws.{filter_few}
@@ -191,17 +194,13 @@ module _ (header : Header) (base : List ℕ) (file : List ℕ) (rules : Rules) (
       }
 
   pub progress_last : (ends : Ends) (result : End) (counts now_counts : Counts) (asked asked_now : List (List ℕ)) → (ends.more && rules.repeat) ≡ false → result ≡ end_by ends.bad → Made (record { header = header; rules = rules; name = file_name base number }) file (record { lanes = now; files = mid }) (record { lanes = later; files = new }) ends
-      → Progress header base file rules news bad number now old mid → IsSplit news (end_by bad) (record { files = old; counts = counts; requested = asked }) (record { files = new; counts = now_counts; requested = asked_now }) result
+      → Progress header base file rules news bad number now old mid → IsSplit news (end_by bad) (record { files = old; counts = counts; requested = asked }) (record { files = new; counts = now_counts; requested = asked_now }) (Ok result)
   progress_last ends result counts now_counts asked asked_now more is m p =
       let lists = lists_left file rules now in
       let none : (is_some_left (joined_lists (behind_file rules.unit lists)) && rules.repeat) ≡ false =
       ap (λ (xss : List (List Keyed)). is_some_left (joined_lists xss) && rules.repeat) (sym m.left.left) ∙ ap (λ (b : Bool). b && rules.repeat) (sym m.left.more) ∙ more in
       let stored : Stages news [] old new = subst (λ (fs : List (List Keyed)). Stages news (files_from header base (number + 1) fs) old new) (no_files rules lists none) (stages_more news _ _ old mid new m.stored p.stage) in
-      ended_by (record { files = old; counts = counts; requested = asked }) (record { files = new; counts = now_counts; requested = asked_now }) ends.bad bad result is (m.left.bad_ends more ∙ p.bad_is) (all_stored news old new stored)
-    where
-      ended_by : (before after : FolderSeen) (o b : Option CutPlace) (result : End) → result ≡ end_by o → o ≡ b → FilesStored news before.files after.files → IsSplit news (end_by b) before after result
-      ended_by before after None b result is same s = subst (λ (e : End). IsSplit news (end_by b) before after e) (sym is) (ap end_by same, s)
-      ended_by before after (Some place) b result is same s = subst (λ (e : End). IsSplit news (end_by b) before after e) (sym is) (ap end_by same, s)
+      (is ∙ ap end_by (m.left.bad_ends more ∙ p.bad_is), all_stored news old new stored)
 
   none_behind : (ends : Ends) → (ends.more && rules.repeat) ≡ false → Made (record { header = header; rules = rules; name = file_name base number }) file (record { lanes = now; files = mid }) (record { lanes = later; files = new }) ends
       → files_behind rules (lists_left file rules now) ≡ []
@@ -221,42 +220,35 @@ module _ (header : Header) (base : List ℕ) (file : List ℕ) (rules : Rules) (
   pub some_counted : Progress header base file rules news bad number now old mid → number ≤ length news
   some_counted p = omega (arith, p.counted)
 
-  pub created_last : (ends : Ends) (result : End) (first before after : ℕ) → (ends.more && rules.repeat) ≡ false → result ≡ end_by ends.bad → Made (record { header = header; rules = rules; name = file_name base number }) file (record { lanes = now; files = mid }) (record { lanes = later; files = new }) ends
+  pub created_last : (ends : Ends) (result : End) (first before after : ℕ) → (ends.more && rules.repeat) ≡ false → Made (record { header = header; rules = rules; name = file_name base number }) file (record { lanes = now; files = mid }) (record { lanes = later; files = new }) ends
       → 1 ≤ number → before ≡ raised first (number - 1) → after ≡ raised before 1
-      → Progress header base file rules news bad number now old mid → Creates (length news) first after result
-  created_last ends result first before after more is m least so_far one p = by_bad ends.bad result is (omega (arith, last_counted ends more m p, least, so_far, one))
-    where
-      by_bad : (o : Option CutPlace) (result : End) → result ≡ end_by o → after ≡ raised first (length news) → Creates (length news) first after result
-      by_bad None result is e = subst (λ (r : End). Creates (length news) first after r) (sym is) e
-      by_bad (Some place) result is e = subst (λ (r : End). Creates (length news) first after r) (sym is) e
+      → Progress header base file rules news bad number now old mid → Creates (length news) first after (Ok result)
+  created_last ends result first before after more m least so_far one p = omega (arith, last_counted ends more m p, least, so_far, one)
 
-  pub created_stops : (kind : Unmade) (result : End) (first before after : ℕ) → result ≡ ending_of kind → IsMade (record { header = header; rules = rules; name = file_name base number }) file (record { lanes = now; files = mid }) (record { lanes = later; files = new }) (Err kind)
+  pub created_stops : (kind : Unmade) (result : Result End IoFault) (first before after : ℕ) → result ≡ ending_of kind → IsMade (record { header = header; rules = rules; name = file_name base number }) file (record { lanes = now; files = mid }) (record { lanes = later; files = new }) (Err kind)
       → 1 ≤ number → before ≡ raised first (number - 1) → after ≤ raised before 1
       → Progress header base file rules news bad number now old mid → Creates (length news) first after result
   created_stops (unmade.Malformed cut) result first before after is m least so_far one p = absurd m
-  created_stops unmade.Read result first before after is m least so_far one p = subst (λ (r : End). Creates (length news) first after r) (sym is) (omega (arith, some_counted p, least, so_far, one))
-  created_stops unmade.Write result first before after is m least so_far one p = subst (λ (r : End). Creates (length news) first after r) (sym is) (omega (arith, some_counted p, least, so_far, one))
+  created_stops (unmade.Fault one) result first before after is m least so_far next p =
+      subst (λ (r : Result End IoFault). Creates (length news) first after r) (sym is) (omega (arith, some_counted p, least, so_far, next))
 
-  pub progress_stops : (kind : Unmade) (result : End) (counts between now_counts : Counts) (first_asked asked asked_now : List (List ℕ)) → result ≡ ending_of kind → counts.unfinished ≤ between.unfinished
+  pub progress_stops : (kind : Unmade) (result : Result End IoFault) (counts between now_counts : Counts) (first_asked asked asked_now : List (List ℕ)) → result ≡ ending_of kind → counts.unfinished ≤ between.unfinished
       → IsMade (record { header = header; rules = rules; name = file_name base number }) file (record { lanes = now; files = mid }) (record { lanes = later; files = new }) (Err kind)
       → LeavesFile (file_name base number) later (record { files = mid; counts = between; requested = asked }) (record { files = new; counts = now_counts; requested = asked_now }) (Err kind)
       → Progress header base file rules news bad number now old mid → IsSplit news (end_by bad) (record { files = old; counts = counts; requested = first_asked }) (record { files = new; counts = now_counts; requested = asked_now }) result
   progress_stops (unmade.Malformed cut) result counts between now_counts first_asked asked asked_now is since m leaves p = absurd m
-  progress_stops unmade.Read result counts between now_counts first_asked asked asked_now is since m leaves p = subst (λ (e : End). IsSplit news (end_by bad) (record { files = old; counts = counts; requested = first_asked }) (record { files = new; counts = now_counts; requested = asked_now }) e) (sym is) (some_stored news _ old mid new leaves p.stage)
-  progress_stops unmade.Write result counts between now_counts first_asked asked asked_now is since m leaves p =
-      subst (λ (e : End). IsSplit news (end_by bad) (record { files = old; counts = counts; requested = first_asked }) (record { files = new; counts = now_counts; requested = asked_now }) e) (sym is)
+  progress_stops (unmade.Fault fault.Read) result counts between now_counts first_asked asked asked_now is since m leaves p = subst (λ (e : Result End IoFault). IsSplit news (end_by bad) (record { files = old; counts = counts; requested = first_asked }) (record { files = new; counts = now_counts; requested = asked_now }) e) (sym is) (some_stored news _ old mid new leaves p.stage)
+  progress_stops (unmade.Fault fault.Write) result counts between now_counts first_asked asked asked_now is since m leaves p =
+      subst (λ (e : Result End IoFault). IsSplit news (end_by bad) (record { files = old; counts = counts; requested = first_asked }) (record { files = new; counts = now_counts; requested = asked_now }) e) (sym is)
       (first_stored news _ _ counts now_counts old mid new (unmade_since counts.unfinished between.unfinished now_counts.unfinished (file_name base number) mid new since leaves) p.stage)
 
 -- a failed read or write is told as one
-pub read_is : (kind : Unmade) (result : End) → result ≡ ending_of kind → result ≡ code.Read → kind ≡ unmade.Read
-read_is (unmade.Malformed cut) result is was = let never : code.Malformed cut ≡ code.Read = sym is ∙ was in absurd cc
-read_is unmade.Read result is was = refl
-read_is unmade.Write result is was = let never : code.Write ≡ code.Read = sym is ∙ was in absurd cc
+same_fault : (one f : IoFault) (result : Result End IoFault) → result ≡ Err one → result ≡ Err f → one ≡ f
+same_fault one f result is was = cc
 
-pub write_is : (kind : Unmade) (result : End) → result ≡ ending_of kind → result ≡ code.Write → kind ≡ unmade.Write
-write_is (unmade.Malformed cut) result is was = let never : code.Malformed cut ≡ code.Write = sym is ∙ was in absurd cc
-write_is unmade.Read result is was = let never : code.Read ≡ code.Write = sym is ∙ was in absurd cc
-write_is unmade.Write result is was = refl
+pub fault_is : (kind : Unmade) (f : IoFault) (result : Result End IoFault) → result ≡ ending_of kind → result ≡ Err f → kind ≡ unmade.Fault f
+fault_is (unmade.Malformed cut) f result is was = absurd (never_fault (code.Malformed cut) f result is was)
+fault_is (unmade.Fault one) f result is was = ap unmade.Fault (same_fault one f result is was)
 
 -- lists that went on
 pub still_lists : (rules : Rules) (header : Header) (first now : List ListSeen) → length now ≡ length first → EachList Kept first now → AreLists rules header first → AreLists rules header now

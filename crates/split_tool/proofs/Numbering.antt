@@ -1,5 +1,5 @@
 -- Files in the order of their numbers, of an input whose bytes may change.
-use Rattle.std.proofs.Common.{◌≡◌, ◌≤◌, ℕ, ◌+◌, List, [], ◌∷◌, ◌++◌, inl, inr, length, map, take, Option, Some, None, Result, Err, refl, sym, ap, subst, ◌∙◌, append_assoc, append-nil, arith}
+use Rattle.std.proofs.Common.{◌≡◌, ◌≤◌, ℕ, ◌+◌, List, [], ◌∷◌, ◌++◌, inl, inr, length, map, take, Option, Some, None, Result, Ok, Err, refl, sym, ap, subst, ◌∙◌, append_assoc, append-nil, arith}
 use Rattle.std.specs.List.{range_with_len}
 use Rattle.std.specs.Option.{IfSome, IsSomeAnd}
 use Rattle.std.specs.FinMap.{insert}
@@ -15,6 +15,8 @@ use Rattle.subpage.specs.Arrangement.{Keyed}
 use Rattle.subpage.specs.declared.cut_place.CutPlace.{CutPlace}
 use Rattle.page_pool.specs.declared.lane.Lane.{Lane}
 use Rattle.time_merge.specs.declared.ending.End.{End}
+use Rattle.time_merge.specs.declared.ending.IoFault.{IoFault}
+use Rattle.time_merge.specs.declared.ending.IoFault.TheVariants as fault
 use Rattle.new_files.specs.Requested.{AskedAll, AskedFirst, names_of}
 use Rattle.new_files.specs.Stored.{FilesStored, IsUnmade, NewFile, Stored}
 use Rattle.split_tool.specs.Names.{file_name}
@@ -37,13 +39,13 @@ finished_is old old1 new w0 w name name1 e n empty gains stores = (gains.0, stor
 
 pub cut_off : (name : List ℕ) (lanes : List Lane) (before now : FolderSeen) (kind : Unmade) → TellsHeld lanes (ending_of kind) → now.files ≡ before.files → LeavesFile name lanes before now (Err kind)
 cut_off name lanes before now (unmade.Malformed cut) held same = (same, held)
-cut_off name lanes before now unmade.Read held same = same
-cut_off name lanes before now unmade.Write held same = inl same
+cut_off name lanes before now (unmade.Fault fault.Read) held same = same
+cut_off name lanes before now (unmade.Fault fault.Write) held same = inl same
 
 pub asks_for_it : (name : List ℕ) (before now : List (List ℕ)) (kind : Unmade) → AskedAll (name ∷ []) before now → AsksForIt name before now (Err kind)
 asks_for_it name before now (unmade.Malformed cut) asked = asked
-asks_for_it name before now unmade.Read asked = inr asked
-asks_for_it name before now unmade.Write asked = asked
+asks_for_it name before now (unmade.Fault fault.Read) asked = inr asked
+asks_for_it name before now (unmade.Fault fault.Write) asked = asked
 
 pub asked_by : (name own : List ℕ) (old mid new : List (List ℕ)) → own ≡ name → mid ≡ old ++ own ∷ [] → new ≡ mid → AskedAll (name ∷ []) old new
 asked_by name own old mid new named one same = same ∙ one ∙ ap (λ (n : List ℕ). old ++ n ∷ []) named
@@ -52,8 +54,7 @@ asked_by name own old mid new named one same = same ∙ one ∙ ap (λ (n : List
 pub stopped_by : {T : Type 0} (plan : FilePlan) (header : Header) (file : List ℕ) (table : List Part) (lists : List (List ItemData)) (before after : LanesOutput) (old new : LanesFiles) (result : Result T Unmade) (kind : Unmade)
     → result ≡ Err kind → IsWritten header file table lists before after result → IsMade plan file old new (Err kind)
 stopped_by plan header file table lists before after old new result (unmade.Malformed cut) is written = subst (IsWritten header file table lists before after) is written
-stopped_by plan header file table lists before after old new result unmade.Read is written = tt
-stopped_by plan header file table lists before after old new result unmade.Write is written = tt
+stopped_by plan header file table lists before after old new result (unmade.Fault one) is written = tt
 
 -- NAMES BY THEIR NUMBERS
 
@@ -123,11 +124,11 @@ numbered_more base count number after before mid now next is finished asked so_f
 
 -- THE END OF A SPLIT
 
-pub finished_all : (base : List ℕ) (lanes : List Lane) (count : ℕ) (before now : FolderSeen) (bad : Option CutPlace) (result : End) → result ≡ end_by bad → Numbered base count 0 before now → LeavesFiles base lanes before now result
-finished_all base lanes count before now None result is all = subst (LeavesFiles base lanes before now) (sym is) (count, all)
-finished_all base lanes count before now (Some bad) result is all = subst (LeavesFiles base lanes before now) (sym is) (inl (count, all))
+pub finished_all : (base : List ℕ) (lanes : List Lane) (count : ℕ) (before now : FolderSeen) (bad : Option CutPlace) (result : End) → result ≡ end_by bad → Numbered base count 0 before now → LeavesFiles base lanes before now (Ok result)
+finished_all base lanes count before now None result is all = subst (λ (end : End). LeavesFiles base lanes before now (Ok end)) (sym is) (count, all)
+finished_all base lanes count before now (Some bad) result is all = subst (λ (end : End). LeavesFiles base lanes before now (Ok end)) (sym is) (inl (count, all))
 
-pub stops_there : (base : List ℕ) (lanes : List Lane) (count number : ℕ) (before mid now : FolderSeen) (kind : Unmade) (result : End) → result ≡ ending_of kind → count + 1 ≡ number
+pub stops_there : (base : List ℕ) (lanes : List Lane) (count number : ℕ) (before mid now : FolderSeen) (kind : Unmade) (result : Result End IoFault) → result ≡ ending_of kind → count + 1 ≡ number
     → before.counts.unfinished ≤ mid.counts.unfinished → Numbered base count 0 before mid
     → LeavesFile (file_name base number) lanes mid now (Err kind) → AsksForIt (file_name base number) mid.requested now.requested (Err kind) → LeavesFiles base lanes before now result
 stops_there base lanes count number before mid now kind result is next since so_far leaves asks = subst (LeavesFiles base lanes before now) (sym is) (by_kind kind leaves asks)
@@ -150,9 +151,9 @@ stops_there base lanes count number before mid now kind result is next since so_
 
     by_kind : (k : Unmade) → LeavesFile (file_name base number) lanes mid now (Err k) → AsksForIt (file_name base number) mid.requested now.requested (Err k) → LeavesFiles base lanes before now (ending_of k)
     by_kind (unmade.Malformed cut) leaves asks = inr ((count, begun now leaves.0 asks), leaves.1)
-    by_kind unmade.Read leaves (inl none) = inl (count, still leaves none)
-    by_kind unmade.Read leaves (inr asked) = inr (count, begun now leaves asked)
-    by_kind unmade.Write leaves asks = record {
+    by_kind (unmade.Fault fault.Read) leaves (inl none) = inl (count, still leaves none)
+    by_kind (unmade.Fault fault.Read) leaves (inr asked) = inr (count, begun now leaves asked)
+    by_kind (unmade.Fault fault.Write) leaves asks = record {
       count = count;
       files = mid.files;
       others = begun (record now { files = mid.files }) refl asks;
@@ -169,18 +170,12 @@ pub asked_few : (base : List ℕ) (news : List NewFile) (count : ℕ) (before no
 asked_few base news count before now names few asked =
     (count, asked ∙ ap (λ (ns : List (List ℕ)). before ++ ns) (sym (ap (take count) names ∙ take-map-range_with_len (file_name base) 1 (length news) count few)))
 
-pub asked_all : (base : List ℕ) (news : List NewFile) (count : ℕ) (before now : List (List ℕ)) (bad : Option CutPlace) (result : End) → result ≡ end_by bad → names_of news ≡ first_names base (length news) → length news ≡ count
-    → now ≡ before ++ first_names base count → AsksFor news before now result
-asked_all base news count before now bad result is names long asked = by_bad bad is
-  where
-    all : AskedAll (names_of news) before now
-    all = asked ∙ ap (λ (n : ℕ). before ++ first_names base n) (sym long) ∙ ap (λ (ns : List (List ℕ)). before ++ ns) (sym names)
+pub asked_all : (base : List ℕ) (news : List NewFile) (count : ℕ) (before now : List (List ℕ)) (end : End) → names_of news ≡ first_names base (length news) → length news ≡ count
+    → now ≡ before ++ first_names base count → AsksFor news before now (Ok end)
+asked_all base news count before now end names long asked =
+    asked ∙ ap (λ (n : ℕ). before ++ first_names base n) (sym long) ∙ ap (λ (ns : List (List ℕ)). before ++ ns) (sym names)
 
-    by_bad : (o : Option CutPlace) → result ≡ end_by o → AsksFor news before now result
-    by_bad None is = subst (AsksFor news before now) (sym is) all
-    by_bad (Some place) is = subst (AsksFor news before now) (sym is) all
-
-pub asked_stops : (plan : FilePlan) (file : List ℕ) (old new : LanesFiles) (base : List ℕ) (news : List NewFile) (count number : ℕ) (before mid now : List (List ℕ)) (kind : Unmade) (result : End) → result ≡ ending_of kind
+pub asked_stops : (plan : FilePlan) (file : List ℕ) (old new : LanesFiles) (base : List ℕ) (news : List NewFile) (count number : ℕ) (before mid now : List (List ℕ)) (kind : Unmade) (result : Result End IoFault) → result ≡ ending_of kind
     → IsMade plan file old new (Err kind) → names_of news ≡ first_names base (length news) → count + 1 ≡ number → number ≤ length news → mid ≡ before ++ first_names base (count + 0)
     → AsksForIt (file_name base number) mid now (Err kind) → AsksFor news before now result
 asked_stops plan file old new base news count number before mid now kind result is made names next few so_far asks = subst (AsksFor news before now) (sym is) (by_kind kind made asks)
@@ -190,6 +185,6 @@ asked_stops plan file old new base news count number before mid now kind result 
 
     by_kind : (k : Unmade) → IsMade plan file old new (Err k) → AsksForIt (file_name base number) mid now (Err k) → AsksFor news before now (ending_of k)
     by_kind (unmade.Malformed cut) made asks = absurd made
-    by_kind unmade.Read made (inl none) = asked_few base news (count + 0) before now names (omega (arith, next, few)) (none ∙ so_far)
-    by_kind unmade.Read made (inr asked) = begun asked
-    by_kind unmade.Write made asks = begun asks
+    by_kind (unmade.Fault fault.Read) made (inl none) = asked_few base news (count + 0) before now names (omega (arith, next, few)) (none ∙ so_far)
+    by_kind (unmade.Fault fault.Read) made (inr asked) = begun asked
+    by_kind (unmade.Fault fault.Write) made asks = begun asks

@@ -1,5 +1,5 @@
 -- Lists that are packed, one after another.
-use Rattle.std.proofs.Common.{◌≡◌, ℕ, zero, suc, ◌+◌, ◌<◌, ◌≤◌, List, [], ◌∷◌, ◌++◌, length, get_or, set, take, inl, inr, Option, refl, sym, ap, subst, ◌∙◌, append-nil, arith}
+use Rattle.std.proofs.Common.{◌≡◌, ℕ, zero, suc, ◌+◌, ◌<◌, ◌≤◌, List, [], ◌∷◌, ◌++◌, length, get_or, set, take, inl, inr, Option, Result, Ok, Err, refl, sym, ap, subst, ◌∙◌, append-nil, arith}
 use Rattle.std.specs.List.{All, Contains, flat_map}
 use Rattle.std.specs.Io.KnownBytes.{append_known}
 use Rattle.std.proofs.lemmas.Grind.{flat_map-append}
@@ -23,6 +23,7 @@ use Rattle.page_write.specs.Placed.{data_of}
 use Rattle.event_cursor.specs.Standing.{Stands}
 use Rattle.time_merge.specs.declared.ending.End.{End}
 use Rattle.time_merge.specs.declared.ending.End.TheVariants as code
+use Rattle.time_merge.specs.declared.ending.IoFault.{IoFault}
 use Rattle.split_pieces.specs.Cuts.{items_of_cpu}
 use Rattle.split_passes.specs.AllAgain.{IsPackedAll, PackedAll, TellsHeld, TellsStop, held_of, owns}
 use Rattle.split_passes.proofs.Stopping.{tells_held}
@@ -120,12 +121,11 @@ held_flat (x ∷ lists) (suc k) e cut lt held =
     subst (λ (hs : List CutPlace). Contains hs cut) (sym (map-append _ x.all (lanes_of lists)))
     (Contains-append_right (held_of x.all) (held_of (lanes_of lists)) cut (held_flat lists k e cut (omega (arith, lt)) held))
 
-pub held_there : (before : List Lane) (now : List ListSeen) (n : ℕ) (new : ListSeen) (end : End) → n < length now → TellsStop before new.all end → TellsHeld (lanes_of (set now n new)) end
-held_there before now n new code.Done lt stop = tt
-held_there before now n new code.Read lt stop = tt
-held_there before now n new code.Write lt stop = tt
-held_there before now n new (code.Malformed cut) lt stop =
-    let held : Contains (held_of new.all) cut = tells_held before new.all (code.Malformed cut) stop in
+pub held_there : (before : List Lane) (now : List ListSeen) (n : ℕ) (new : ListSeen) (end : Result End IoFault) → n < length now → TellsStop before new.all end → TellsHeld (lanes_of (set now n new)) end
+held_there before now n new (Ok code.Done) lt stop = tt
+held_there before now n new (Err fault) lt stop = tt
+held_there before now n new (Ok (code.Malformed cut)) lt stop =
+    let held : Contains (held_of new.all) cut = tells_held before new.all (Ok (code.Malformed cut)) stop in
     held_flat (set now n new) n new cut (omega (arith, lt, length-set now n new))
     (subst (λ (x : ListSeen). Contains (held_of x.all) cut) (sym (get_or-set_same now n new new lt)) held)
 
@@ -170,9 +170,18 @@ fronts_there file n first now d taken lt long others fronts =
 pub all_kept : (first now : List ListSeen) → EachList KeepsList first now → EachList Kept first now
 all_kept first now keeps j d lt = let k = keeps j d lt in (ap (λ (x : ListSeen). x.layout) k.same, k.parts)
 
--- packing did not come to its end
-pub stopped_told : (l k : Layout) (file : List ℕ) (own all : List (List ItemData)) (a b x y : LanesOutput) (end : End) → (end ≡ code.Done → ⊥) → IsPackedAll k file own a b end → IsPackedAll l file all x y end
+-- an end is no fault, and it is one
+pub never_fault : (end : End) (kind : IoFault) (result : Result End IoFault) → result ≡ Ok end → result ≡ Err kind → ⊥
+never_fault end kind result is was = cc
+
+pub same_end : (one end : End) (result : Result End IoFault) → result ≡ Ok one → result ≡ Ok end → one ≡ end
+same_end one end result is was = cc
+
+-- packing came to its end
+pub done_told : (l : Layout) (file : List ℕ) (own : List (List ItemData)) (a b : LanesOutput) (end : End) → end ≡ code.Done → IsPackedAll l file own a b (Ok end) → PackedAll l file own a b
+done_told l file own a b end is p = subst (λ (e : End). IsPackedAll l file own a b (Ok e)) is p
+
+-- or it did not
+pub stopped_told : (l k : Layout) (file : List ℕ) (own all : List (List ItemData)) (a b x y : LanesOutput) (end : End) → (end ≡ code.Done → ⊥) → IsPackedAll k file own a b (Ok end) → IsPackedAll l file all x y (Ok end)
 stopped_told l k file own all a b x y code.Done some p = absurd (some refl)
 stopped_told l k file own all a b x y (code.Malformed cut) some p = p
-stopped_told l k file own all a b x y code.Read some p = tt
-stopped_told l k file own all a b x y code.Write some p = tt

@@ -27,6 +27,7 @@ use Rattle.time_merge.specs.Rows.{Row}
 use Rattle.time_merge.specs.LaneRows.{HasLayout, parts_of, rows_of, IsReady}
 use Rattle.time_merge.specs.declared.ending.End.{End}
 use Rattle.time_merge.specs.declared.ending.End.TheVariants as code
+use Rattle.time_merge.specs.declared.ending.IoFault.{IoFault}
 use Rattle.split_pieces.specs.declared.rules.Rules.{Rules}
 use Rattle.split_pieces.specs.Cuts.{items_of_cpu}
 use Rattle.split_pieces.specs.Pieces.{is_some_left, joined_lists, next_file, behind_file}
@@ -236,26 +237,25 @@ prepared_back header rules first now table table1 ends told is p =
 
 -- WRITING
 
-pub written_all : {T : Type 0} (header : Header) (file : List ℕ) (table : List Part) (lists : List (List ItemData)) (before now : List Lane) (old mid new : Option (List ℕ)) (end : End) (result : Result T Unmade) → IsMadeBy end result → Gained old mid (front_text header table)
+pub written_all : {T : Type 0} (header : Header) (file : List ℕ) (table : List Part) (lists : List (List ItemData)) (before now : List Lane) (old mid new : Option (List ℕ)) (end : Result End IoFault) (result : Result T Unmade) → IsMadeBy end result → Gained old mid (front_text header table)
     → IsPackedAll header.layout file lists (record { lanes = before; written = mid }) (record { lanes = now; written = new }) end
     → IsWritten header file table lists (record { lanes = before; written = old }) (record { lanes = now; written = new }) result
 written_all header file table lists before now old mid new end (Ok done) is front packed =
-    let p = subst (λ (e : End). IsPackedAll header.layout file lists (record { lanes = before; written = mid }) (record { lanes = now; written = new }) e) is packed in
+    let p = subst (λ (e : Result End IoFault). IsPackedAll header.layout file lists (record { lanes = before; written = mid }) (record { lanes = now; written = new }) e) is packed in
     record { stands = p.stands; rows = p.rows; gained = gained_both old mid new (front_text header table) (data_of header.layout lists) front p.gained }
 written_all header file table lists before now old mid new end (Err (unmade.Malformed cut)) is front packed =
-    subst (λ (e : End). IsPackedAll header.layout file lists (record { lanes = before; written = mid }) (record { lanes = now; written = new }) e) is packed
-written_all header file table lists before now old mid new end (Err unmade.Read) is front packed = tt
-written_all header file table lists before now old mid new end (Err unmade.Write) is front packed = tt
+    subst (λ (e : Result End IoFault). IsPackedAll header.layout file lists (record { lanes = before; written = mid }) (record { lanes = now; written = new }) e) is packed
+written_all header file table lists before now old mid new end (Err (unmade.Fault fault)) is front packed = tt
 
 -- what is said of an end is said of the answer that it makes
-pub stops_by : {T : Type 0} (P : End → Type 0) (end : End) (result : Result T Unmade) → IsMadeBy end result → P end → IfErr result (λ kind. P (ending_of kind))
+pub stops_by : {T : Type 0} (P : Result End IoFault → Type 0) (end : Result End IoFault) (result : Result T Unmade) → IsMadeBy end result → P end → IfErr result (λ kind. P (ending_of kind))
 stops_by P end (Ok done) is p = tt
 stops_by P end (Err kind) is p = subst P is p
 
-pub fails_by : {T : Type 0} (X : Type 0) (kind : Unmade) (end : End) (result : Result T Unmade) → IsMadeBy end result → (end ≡ ending_of kind → X) → IfErr result (λ one. one ≡ kind → X)
+pub fails_by : {T : Type 0} (X : Type 0) (kind : Unmade) (end : Result End IoFault) (result : Result T Unmade) → IsMadeBy end result → (end ≡ ending_of kind → X) → IfErr result (λ one. one ≡ kind → X)
 fails_by X kind end (Ok done) is x = tt
 fails_by X kind end (Err one) is x = λ same. x (is ∙ ap ending_of same)
 
-pub done_by : {T : Type 0} (X : Type 0) (end : End) (result : Result T Unmade) → IsMadeBy end result → (end ≡ code.Done → X) → OnOk result X
+pub done_by : {T : Type 0} (X : Type 0) (end : Result End IoFault) (result : Result T Unmade) → IsMadeBy end result → (end ≡ Ok code.Done → X) → OnOk result X
 done_by X end (Ok done) is x = x is
 done_by X end (Err kind) is x = tt

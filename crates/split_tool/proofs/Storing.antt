@@ -1,15 +1,15 @@
 -- Files that stand in a folder, one more after another.
-use Rattle.std.proofs.Common.{◌≡◌, ◌≤◌, ◌⊎◌, ℕ, List, [], ◌∷◌, ◌++◌, inl, inr, length, take, slice_get, Option, Some, None, refl, sym, ap, subst, ◌∙◌, append_assoc, append-nil, arith}
+use Rattle.std.proofs.Common.{◌≡◌, ◌≤◌, ◌⊎◌, ℕ, List, [], ◌∷◌, ◌++◌, inl, inr, length, take, slice_get, Option, Some, None, Result, Ok, Err, refl, sym, ap, subst, ◌∙◌, append_assoc, append-nil, arith}
 use Rattle.std.specs.Option.{IfSome, IsSomeAnd}
 use Rattle.std.specs.FinMap.{insert}
 use Rattle.std.proofs.lemmas.List.{take_at}
 use Rattle.trace_outside.specs.Names.{NamedFiles, SameBut}
 use Rattle.trace_outside.specs.declared.counts.Counts.{Counts}
 use Rattle.trace_outside.specs.Causes.{Rose}
-use Rattle.subpage.specs.declared.cut_place.CutPlace.{CutPlace}
 use Rattle.time_merge.specs.declared.ending.End.{End}
-use Rattle.time_merge.specs.declared.ending.End.TheVariants as code
-use Rattle.split_tool.specs.NewFiles.{LeavesUnfinished, end_by}
+use Rattle.time_merge.specs.declared.ending.IoFault.{IoFault}
+use Rattle.time_merge.specs.declared.ending.IoFault.TheVariants as fault
+use Rattle.split_tool.specs.NewFiles.{LeavesUnfinished}
 use Rattle.new_files.specs.Stored.{KeepsCounts, IsUnmade, NewFile, Stored, FilesStored, IsNextOpen, FirstFilesStored}
 
 -- files that stand in the folder by now, and those that are to come
@@ -117,16 +117,11 @@ kept_twice before mid now one two = record {
 
 -- HOW MANY FILES COULD NOT BE FINISHED
 
-pub leaves_none : (o : Option CutPlace) (result : End) (before now : ℕ) → result ≡ end_by o → now ≡ before → LeavesUnfinished before now result
-leaves_none None result before now is same = subst (λ (end : End). LeavesUnfinished before now end) (sym is) same
-leaves_none (Some bad) result before now is same = subst (λ (end : End). LeavesUnfinished before now end) (sym is) same
-
-pub leaves_since : (result : End) (first before now : ℕ) → before ≡ first → LeavesUnfinished before now result → LeavesUnfinished first now result
+pub leaves_since : (result : Result End IoFault) (first before now : ℕ) → before ≡ first → LeavesUnfinished before now result → LeavesUnfinished first now result
 leaves_since result first before now same leaves = subst (λ (n : ℕ). LeavesUnfinished n now result) same leaves
 
 -- each file that was created is given up or finished
-pub leaves_same : (result : End) (before now : ℕ) → now ≡ before → LeavesUnfinished before now result
-leaves_same code.Done before now same = same
-leaves_same (code.Malformed cut) before now same = same
-leaves_same code.Read before now same = same
-leaves_same code.Write before now same = (omega (arith, same), omega (arith, same))
+pub leaves_same : (result : Result End IoFault) (before now : ℕ) → now ≡ before → LeavesUnfinished before now result
+leaves_same (Ok end) before now same = same
+leaves_same (Err fault.Read) before now same = same
+leaves_same (Err fault.Write) before now same = (omega (arith, same), omega (arith, same))

@@ -16,6 +16,7 @@ use Rattle.page_write.specs.Placed.{data_of}
 use Rattle.event_cursor.specs.Standing.{Stands}
 use Rattle.time_merge.specs.LaneRows.{rows_of}
 use Rattle.time_merge.specs.declared.ending.End.TheVariants as code
+use Rattle.time_merge.specs.declared.ending.IoFault.TheVariants as fault
 use Rattle.split_pieces.specs.declared.rules.Rules.{Rules}
 use Rattle.split_passes.specs.AllAgain.{AreFronts, TellsHeld, owns}
 use Rattle.split_passes.specs.Outputs.{LanesOutput}
@@ -62,8 +63,7 @@ pub record Written (header : Header) (file : List ℕ) (table : List Part) (list
 abbrev pub IsWritten : {T : Type 0} → Header → List ℕ → List Part → List (List ItemData) → LanesOutput → LanesOutput → Result T Unmade → Type 0
 IsWritten header file table lists before now (Ok done) = Written header file table lists before now
 IsWritten header file table lists before now (Err (unmade.Malformed cut)) = ⊥
-IsWritten header file table lists before now (Err unmade.Read) = Unit {0}
-IsWritten header file table lists before now (Err unmade.Write) = Unit {0}
+IsWritten header file table lists before now (Err (unmade.Fault kind)) = Unit {0}
 
 -- what a new file is made by
 pub record FilePlan : Type 0 where
@@ -85,8 +85,7 @@ pub record Made (plan : FilePlan) (file : List ℕ) (before now : LanesFiles) (e
 abbrev pub IsMade : FilePlan → List ℕ → LanesFiles → LanesFiles → Result Ends Unmade → Type 0
 IsMade plan file before now (Ok ends) = Made plan file before now ends
 IsMade plan file before now (Err (unmade.Malformed cut)) = ⊥
-IsMade plan file before now (Err unmade.Read) = Unit {0}
-IsMade plan file before now (Err unmade.Write) = Unit {0}
+IsMade plan file before now (Err (unmade.Fault kind)) = Unit {0}
 
 -- some file of this name was finished, and every other name is as before
 abbrev pub IsFinished : List ℕ → Option NamedFiles → Option NamedFiles → Type 0
@@ -97,14 +96,14 @@ IsFinished name old new = (content : List ℕ) × IfSome old (λ files. new ≡ 
 abbrev pub LeavesFile : List ℕ → List Lane → FolderSeen → FolderSeen → Result Ends Unmade → Type 0
 LeavesFile name lanes before now (Ok ends) = IsFinished name before.files now.files
 LeavesFile name lanes before now (Err (unmade.Malformed cut)) =
-    (now.files ≡ before.files) × TellsHeld lanes (code.Malformed cut)
-LeavesFile name lanes before now (Err unmade.Read) = now.files ≡ before.files
-LeavesFile name lanes before now (Err unmade.Write) =
+    (now.files ≡ before.files) × TellsHeld lanes (Ok (code.Malformed cut))
+LeavesFile name lanes before now (Err (unmade.Fault fault.Read)) = now.files ≡ before.files
+LeavesFile name lanes before now (Err (unmade.Fault fault.Write)) =
     IsUnmade before.counts.unfinished now.counts.unfinished name before.files now.files
 
 -- its name was asked for, unless a read failed before
 abbrev pub AsksForIt : List ℕ → List (List ℕ) → List (List ℕ) → Result Ends Unmade → Type 0
-AsksForIt name before now (Err unmade.Read) = (now ≡ before) ⊎ AskedAll (name ∷ []) before now
+AsksForIt name before now (Err (unmade.Fault fault.Read)) = (now ≡ before) ⊎ AskedAll (name ∷ []) before now
 AsksForIt name before now result = AskedAll (name ∷ []) before now
 
 -- What making one file does to the counts of a folder: a file is created, or after a fault maybe none, and only a fault of
@@ -113,4 +112,4 @@ pub record CountsOne (before now : Counts) (result : Result Ends Unmade) : Type 
   pub keeps : KeepsCounts before now
   pub created : MatchResult result (λ _. now.created ≡ raised before.created 1) (λ _. now.created ≤ raised before.created 1)
   pub unfinished : MatchResult result (λ _. now.unfinished ≡ before.unfinished) (λ kind. LeavesUnfinished before.unfinished now.unfinished (ending_of kind))
-  pub writing : IfErr result (λ kind. kind ≡ unmade.Write → Rose before.writing now.writing)
+  pub writing : IfErr result (λ kind. kind ≡ unmade.Fault fault.Write → Rose before.writing now.writing)

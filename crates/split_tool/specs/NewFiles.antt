@@ -1,6 +1,6 @@
 -- The new files of a split, and how it ends.
 -- Source: trace-cmd-split(1).
-use Rattle.std.specs.Prelude.{◌≡◌, ◌≤◌, ℕ, ◌+◌, List, [], ◌∷◌, take, Option, Some, None}
+use Rattle.std.specs.Prelude.{◌≡◌, ◌≤◌, ℕ, ◌+◌, List, [], ◌∷◌, take, Option, Some, None, Result, Ok, Err}
 use Rattle.trace_base.specs.declared.part.Part.{Part}
 use Rattle.trace_outside.specs.Seen.{FolderSeen}
 use Rattle.trace_outside.specs.Causes.{raised}
@@ -9,6 +9,8 @@ use Rattle.subpage.specs.Arrangement.{Keyed}
 use Rattle.subpage.specs.declared.cut_place.CutPlace.{CutPlace}
 use Rattle.time_merge.specs.declared.ending.End.{End}
 use Rattle.time_merge.specs.declared.ending.End.TheVariants as code
+use Rattle.time_merge.specs.declared.ending.IoFault.{IoFault}
+use Rattle.time_merge.specs.declared.ending.IoFault.TheVariants as fault
 use Rattle.split_pieces.specs.declared.rules.Rules.{Rules}
 use Rattle.split_pieces.specs.Cuts.{bad_reached, file_items}
 use Rattle.split_tool.specs.Names.{file_name}
@@ -36,27 +38,26 @@ abbrev pub end_of : Rules → Header → List ℕ → List (ℕ × Part) → End
 end_of rules header bytes parts = end_by (bad_reached rules header.layout bytes parts)
 
 -- what a split that was to make these files and end so did to a folder, by its answer: after a fault the first few files stand
-abbrev pub IsSplit : List NewFile → End → FolderSeen → FolderSeen → End → Type 0
-IsSplit news end before now code.Read = (count : ℕ) × FilesStored (take count news) before.files now.files
-IsSplit news end before now code.Write = FirstFilesStored news before.counts now.counts before.files now.files
-IsSplit news end before now answer = (answer ≡ end) × FilesStored news before.files now.files
+abbrev pub IsSplit : List NewFile → End → FolderSeen → FolderSeen → Result End IoFault → Type 0
+IsSplit news end before now (Err fault.Read) = (count : ℕ) × FilesStored (take count news) before.files now.files
+IsSplit news end before now (Err fault.Write) = FirstFilesStored news before.counts now.counts before.files now.files
+IsSplit news end before now (Ok answer) = (answer ≡ end) × FilesStored news before.files now.files
 
 -- a file is created for each new one, after a fault for at most so many
-abbrev pub Creates : ℕ → ℕ → ℕ → End → Type 0
-Creates count before now code.Read = now ≤ raised before count
-Creates count before now code.Write = now ≤ raised before count
-Creates count before now answer = now ≡ raised before count
+abbrev pub Creates : ℕ → ℕ → ℕ → Result End IoFault → Type 0
+Creates count before now (Ok answer) = now ≡ raised before count
+Creates count before now (Err kind) = now ≤ raised before count
 
 -- their names were asked for, after a fault the first few of them
-abbrev pub AsksFor : List NewFile → List (List ℕ) → List (List ℕ) → End → Type 0
-AsksFor news before now code.Read = AskedFirst (names_of news) before now
-AsksFor news before now code.Write = AskedFirst (names_of news) before now
-AsksFor news before now answer = AskedAll (names_of news) before now
+abbrev pub AsksFor : List NewFile → List (List ℕ) → List (List ℕ) → Result End IoFault → Type 0
+AsksFor news before now (Ok answer) = AskedAll (names_of news) before now
+AsksFor news before now (Err kind) = AskedFirst (names_of news) before now
 
 -- how many files could not be finished: none, and after a fault of writing at most one
-abbrev pub LeavesUnfinished : ℕ → ℕ → End → Type 0
-LeavesUnfinished before now code.Write = (before ≤ now) × (now ≤ raised before 1)
-LeavesUnfinished before now answer = now ≡ before
+abbrev pub LeavesUnfinished : ℕ → ℕ → Result End IoFault → Type 0
+LeavesUnfinished before now (Ok answer) = now ≡ before
+LeavesUnfinished before now (Err fault.Read) = now ≡ before
+LeavesUnfinished before now (Err fault.Write) = (before ≤ now) × (now ≤ raised before 1)
 
 -- each of these files reads back to just its items, processor by processor
 abbrev pub ReadBack : Header → List (List Keyed) → List NewFile → Type 0

@@ -1,12 +1,14 @@
 -- What a split leaves of a folder whatever the bytes of its input are, also where they change between the passes.
 -- Source: trace-cmd-split(1).
-use Rattle.std.specs.Prelude.{◌≡◌, ◌⊎◌, ℕ, ◌+◌, List, [], ◌∷◌, ◌++◌, length, map, Option}
+use Rattle.std.specs.Prelude.{◌≡◌, ◌⊎◌, ℕ, ◌+◌, List, [], ◌∷◌, ◌++◌, length, map, Option, Result, Ok, Err}
 use Rattle.std.specs.List.{range_with_len}
 use Rattle.trace_outside.specs.Names.{NamedFiles}
 use Rattle.trace_outside.specs.Seen.{FolderSeen}
 use Rattle.page_pool.specs.declared.lane.Lane.{Lane}
 use Rattle.time_merge.specs.declared.ending.End.{End}
 use Rattle.time_merge.specs.declared.ending.End.TheVariants as code
+use Rattle.time_merge.specs.declared.ending.IoFault.{IoFault}
+use Rattle.time_merge.specs.declared.ending.IoFault.TheVariants as fault
 use Rattle.new_files.specs.Stored.{FilesStored, IsUnmade, NewFile}
 use Rattle.split_tool.specs.Names.{file_name}
 use Rattle.split_passes.specs.AllAgain.{TellsHeld}
@@ -45,9 +47,9 @@ pub record LastUnmade (base : List ℕ) (before now : FolderSeen) : Type 0 where
 
 -- By the answer: no file is cut off where the split is done, and the sub-buffer that is told as malformed is the one that a
 -- lane holds where the last file is cut off before it.
-abbrev pub LeavesFiles : List ℕ → List Lane → FolderSeen → FolderSeen → End → Type 0
-LeavesFiles base lanes before now code.Done = AllFinished base before now
-LeavesFiles base lanes before now (code.Malformed cut) =
-    AllFinished base before now ⊎ (LastCutOff base before now × TellsHeld lanes (code.Malformed cut))
-LeavesFiles base lanes before now code.Read = AllFinished base before now ⊎ LastCutOff base before now
-LeavesFiles base lanes before now code.Write = LastUnmade base before now
+abbrev pub LeavesFiles : List ℕ → List Lane → FolderSeen → FolderSeen → Result End IoFault → Type 0
+LeavesFiles base lanes before now (Ok code.Done) = AllFinished base before now
+LeavesFiles base lanes before now (Ok (code.Malformed cut)) =
+    AllFinished base before now ⊎ (LastCutOff base before now × TellsHeld lanes (Ok (code.Malformed cut)))
+LeavesFiles base lanes before now (Err fault.Read) = AllFinished base before now ⊎ LastCutOff base before now
+LeavesFiles base lanes before now (Err fault.Write) = LastUnmade base before now

@@ -2,15 +2,15 @@
 use Rattle.std.specs.Prelude.{◌≡◌, Result, Ok, Err}
 use Rattle.time_merge.specs.declared.ending.End.{End}
 use Rattle.time_merge.specs.declared.ending.End.TheVariants as code
+use Rattle.time_merge.specs.declared.ending.IoFault.{IoFault}
 use Rattle.split_tool.specs.declared.unmade.Unmade.{Unmade}
 use Rattle.split_tool.specs.declared.unmade.Unmade.TheVariants as unmade
 
-abbrev pub ending_of : Unmade → End
-ending_of (unmade.Malformed cut) = code.Malformed cut
-ending_of unmade.Read = code.Read
-ending_of unmade.Write = code.Write
+abbrev pub ending_of : Unmade → Result End IoFault
+ending_of (unmade.Malformed cut) = Ok (code.Malformed cut)
+ending_of (unmade.Fault fault) = Err fault
 
 -- a file is made where all its items were packed
-abbrev pub IsMadeBy : {T : Type 0} → End → Result T Unmade → Type 0
-IsMadeBy end (Ok done) = end ≡ code.Done
-IsMadeBy end (Err unmade) = end ≡ ending_of unmade
+abbrev pub IsMadeBy : {T : Type 0} → Result End IoFault → Result T Unmade → Type 0
+IsMadeBy packed (Ok done) = packed ≡ Ok code.Done
+IsMadeBy packed (Err unmade) = packed ≡ ending_of unmade

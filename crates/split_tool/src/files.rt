@@ -24,6 +24,7 @@ use crate::table::fill_table;
 use crate::unmade::{Unmade, made_by};
 use crate::work::SplitWork;
 use split_passes::LaneList;
+use time_merge::IoFault;
 use trace_outside::{Failed, File, Folder, Sink};
 
 // Goes through the file's pieces, and leaves what the second pass needs in the lists and in the table.
@@ -81,13 +82,13 @@ fn write_file<F: File, O: Sink>(
     ensures left { OnOk result (to_read (F.size file.old) (lanes_of lists.new)
         ≡ to_read (F.size file.old) (lanes_of lists.old)) }
     ensures keeps_out { KeepsSink O.Sink out.old out.new }
-    ensures read { IfErr result (λ unmade. unmade ≡ Unmade.Read → Rose (F.faults file.old) (F.faults file.new)) }
-    ensures write { IfErr result (λ unmade. unmade ≡ Unmade.Write → Rose (O.faults out.old) (O.faults out.new)) }
+    ensures read { IfErr result (λ unmade. unmade ≡ Unmade.Fault IoFault.Read → Rose (F.faults file.old) (F.faults file.new)) }
+    ensures write { IfErr result (λ unmade. unmade ≡ Unmade.Fault IoFault.Write → Rose (O.faults out.old) (O.faults out.new)) }
     ensures keeps { KeepsFile F.File file.old file.new }
 {
     match write_front(plan.header, &work.before, work.table.as_slice(), out) {
         Ok(()) => {}
-        Err(Failed) => return Err(Unmade::Write),
+        Err(Failed) => return Err(Unmade::Fault(IoFault::Write)),
     }
     made_by(pack_lists(plan, file, lists, work.page.as_mut_slice(), out))
 }
@@ -119,20 +120,20 @@ pub(crate) fn make_file<F: File, D: Folder>(
     ensures counts { CountsOne (D.counts folder.old) (D.counts folder.new) result }
     ensures reads { Spends (to_read (F.size file.old) (lanes_of lists.old))
         (to_read (F.size file.old) (lanes_of lists.new)) (F.reads file.old) (F.reads file.new) result }
-    ensures read { IfErr result (λ unmade. unmade ≡ Unmade.Read → Rose (F.faults file.old) (F.faults file.new)) }
+    ensures read { IfErr result (λ unmade. unmade ≡ Unmade.Fault IoFault.Read → Rose (F.faults file.old) (F.faults file.new)) }
     ensures keeps { KeepsFile F.File file.old file.new }
 {
     let Ok(ends) = measure_file(plan, file, lists, work) else {
-        return Err(Unmade::Read);
+        return Err(Unmade::Fault(IoFault::Read));
     };
     put_name(plan.base, number, name);
     let Ok(mut out) = folder.create_file(name.as_str()) else {
-        return Err(Unmade::Write);
+        return Err(Unmade::Fault(IoFault::Write));
     };
     match write_file(plan, file, lists, work, &mut out) {
         Ok(()) => match folder.finish_file(out) {
             Ok(()) => Ok(ends),
-            Err(Failed) => Err(Unmade::Write),
+            Err(Failed) => Err(Unmade::Fault(IoFault::Write)),
         },
         Err(unmade) => {
             folder.drop_file(out);

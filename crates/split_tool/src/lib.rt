@@ -24,5 +24,5 @@ pub use front::{data_place, write_front};
 pub use grouping::lists_over;
 pub use names::{FileName, put_name};
 pub use splitting::{SplitPlan, split};
-pub use time_merge::End;
+pub use time_merge::{End, IoFault};
 pub use work::SplitWork;

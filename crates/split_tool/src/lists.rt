@@ -1,6 +1,6 @@
 // The lists that one file takes its pieces of.
 
-ghost use Rattle.std.specs.Prelude.{◌≡◌, ◌-◌, ◌≤◌, ◌&&◌, ◌||◌, false, not, List, [], All, IfOk, IfSome, None, OnOk, length};
+ghost use Rattle.std.specs.Prelude.{◌≡◌, ◌-◌, ◌≤◌, ◌&&◌, ◌||◌, false, not, List, [], All, IfOk, IfSome, IsErrOf, None, Ok, OnOk, length};
 ghost use Rattle.std.specs.Option.{option_or};
 ghost use Rattle.trace_outside.specs.Causes.{HasCause, Rose, raised};
 ghost use Rattle.trace_outside.specs.Keeping.{KeepsFile, KeepsSink};
@@ -25,7 +25,7 @@ use crate::splitting::SplitPlan;
 use split_passes::{LaneList, PieceEnd};
 use split_pieces::{Gauge, Rules};
 use subpage::CutPlace;
-use time_merge::End;
+use time_merge::{End, IoFault};
 use trace_outside::{Failed, File, Sink};
 
 /// What is left after a file's pieces.
@@ -185,13 +185,16 @@ pub(crate) fn begin_lists<F: File>(
 }
 
 /// Packs the pieces of all lists, one list after another. `page` is room for one sub-buffer.
+///
+/// # Errors
+/// Whether a read or a write failed.
 pub(crate) fn pack_lists<F: File, O: Sink>(
     plan: &SplitPlan<'_>,
     file: &mut F,
     lists: &mut [LaneList],
     page: &mut [u8],
     out: &mut O,
-) -> End
+) -> Result<End, IoFault>
     requires lists { AreLists plan.now.rules plan.now.header.now lists.old }
     requires whole { length page.old ≡ plan.now.header.now.layout.page }
     ensures kept { EachList KeepsList lists.old lists.new }
@@ -202,20 +205,20 @@ pub(crate) fn pack_lists<F: File, O: Sink>(
         → IsPackedAll plan.now.header.now.layout bytes (owns (lanes_of lists.old) taken)
         (record { lanes = lanes_of lists.old; written = O.written out.old }) (record { lanes = lanes_of lists.new; written = O.written out.new }) result) }
     ensures malformed { TellsHeld (lanes_of lists.new) result }
-    ensures gains { result ≡ End.Done → GainsSome (O.written out.old) (O.written out.new) }
-    ensures numbers { result ≡ End.Done → numbers_of (lanes_of lists.new) ≡ numbers_of (lanes_of lists.old) }
+    ensures gains { result ≡ Ok End.Done → GainsSome (O.written out.old) (O.written out.new) }
+    ensures numbers { result ≡ Ok End.Done → numbers_of (lanes_of lists.new) ≡ numbers_of (lanes_of lists.old) }
     ensures reads { F.reads file.new ≤ raised (F.reads file.old)
         (lists_packing (F.size file.old) lists.old) }
-    ensures read { result ≡ End.Read → Rose (F.faults file.old) (F.faults file.new) }
-    ensures write { result ≡ End.Write → Rose (O.faults out.old) (O.faults out.new) }
+    ensures read { IsErrOf result IoFault.Read → Rose (F.faults file.old) (F.faults file.new) }
+    ensures write { IsErrOf result IoFault.Write → Rose (O.faults out.old) (O.faults out.new) }
     ensures keeps_out { KeepsSink O.Sink out.old out.new }
     ensures keeps { KeepsFile F.File file.old file.new }
 {
     for i in 0..lists.len() {
-        match lists[i].pack(file, page, out) {
+        match lists[i].pack(file, page, out)? {
             End::Done => {}
-            end => return end,
+            end => return Ok(end),
         }
     }
-    End::Done
+    Ok(End::Done)
 }

@@ -1,4 +1,4 @@
-ghost use Rattle.std.specs.Prelude.{◌≡◌, ◌*◌, ◌<◌, ◌≤◌, ◌&&◌, All, IfSome, List, length, sum_by};
+ghost use Rattle.std.specs.Prelude.{◌≡◌, ◌*◌, ◌<◌, ◌≤◌, ◌&&◌, All, IfSome, IsErrOf, List, length, sum_by};
 ghost use Rattle.trace_base.specs.declared.part.Part.{Part};
 ghost use Rattle.trace_outside.specs.Causes.{Rose, raised};
 ghost use Rattle.trace_outside.specs.Keeping.{KeepsFile};
@@ -21,7 +21,7 @@ use crate::work::SplitWork;
 use dat_header::Header;
 use split_passes::LaneList;
 use split_pieces::Rules;
-use time_merge::End;
+use time_merge::{End, IoFault};
 use trace_outside::{File, Folder};
 
 /// What is to be split, and how.
@@ -54,18 +54,21 @@ fn end_by(ends: Ends) -> End
 /// Cuts a trace into new files (trace-cmd-split(1)).
 ///
 /// There is always a first file. `Malformed` exactly where a list that nothing closed ends before a malformed sub-buffer;
-/// the last file is finished then. After `Read` and `Write` the finished files are the first few, and the file being made
-/// has no name, unless finishing it failed. Nothing here takes memory.
+/// the last file is finished then. Nothing here takes memory.
 ///
 /// A file that gives other bytes while a piece is packed than while it was measured is `Malformed` too, at the sub-buffer that
 /// the lane holds; the new file being made has no name then.
+///
+/// # Errors
+/// Whether a read or a write failed. The finished files are the first few then, and the file being made has no name, unless
+/// finishing it failed.
 pub fn split<F: File, D: Folder>(
     plan: &SplitPlan<'_>,
     file: &mut F,
     lists: &mut [LaneList],
     work: &mut SplitWork,
     folder: &mut D,
-) -> End
+) -> Result<End, IoFault>
     requires allowed { IsHeader plan.now.header.now }
     requires unit { IsUnit plan.now.rules.unit }
     requires base { length plan.now.base.now ≤ 4096 }
@@ -92,25 +95,25 @@ pub fn split<F: File, D: Folder>(
     ensures reads { F.reads file.new
         ≤ raised (F.reads file.old) (3 * sum_by (λ part. part.1.size) (parts_of (lanes_of lists.old))) }
     ensures keeps { KeepsFile F.File file.old file.new }
-    ensures read { result ≡ End.Read → Rose (F.faults file.old) (F.faults file.new) }
-    ensures write { result ≡ End.Write → Rose (D.counts folder.old).writing (D.counts folder.new).writing }
+    ensures read { IsErrOf result IoFault.Read → Rose (F.faults file.old) (F.faults file.new) }
+    ensures write { IsErrOf result IoFault.Write → Rose (D.counts folder.old).writing (D.counts folder.new).writing }
 {
     // A file's length is a number of 64 bits, so there are fewer items than 128 bits count.
     let _size = file.len();
     know_layouts(lists);
     let Ok(()) = pass_start(plan, file, lists) else {
-        return End::Read;
+        return Err(IoFault::Read);
     };
     let mut name = FileName::new();
     for number in 1..u128::MAX {
         match make_file(plan, number, &mut name, file, lists, work, folder) {
             Ok(ends) => {
                 if !goes_on(&plan.rules, ends) {
-                    return end_by(ends);
+                    return Ok(end_by(ends));
                 }
             }
             Err(unmade) => return unmade.ending(),
         }
     }
-    End::Done
+    Ok(End::Done)
 }

@@ -1,8 +1,10 @@
-use Rattle.std.proofs.Common.{List, ap, sym, subst, ◌∙◌, length}
+use Rattle.std.proofs.Common.{List, Result, ap, sym, subst, ◌∙◌, length}
 use Rattle.std.proofs.lemmas.List.{take_at}
 use Rattle.trace_base.specs.declared.part.Part.{Part}
 use Rattle.trace_outside.specs.Writing.{Gained}
 use Rattle.time_merge.specs.declared.ending.End.{End}
+use Rattle.time_merge.specs.declared.ending.IoFault.{IoFault}
+use Rattle.time_merge.specs.declared.ending.IoFault.TheVariants as fault
 use Rattle.event_cursor.proofs.Told.{told_map}
 use Rattle.split_passes.specs.AllAgain.{TellsHeld, owns}
 use Rattle.split_passes.proofs.AllPacked.{gains_more}
@@ -57,7 +59,7 @@ returns-clause-cut g c =
 
 pub returns-clause-malformed : goal.returns-clause-malformed
 returns-clause-malformed g c =
-    stops_by (λ (end : End). TellsHeld (lanes_of c.pack_lists.new.lists) end) c.pack_lists.result c.made_by.result c.made_by.ensures c.pack_lists.ensures.malformed
+    stops_by (λ (end : Result End IoFault). TellsHeld (lanes_of c.pack_lists.new.lists) end) c.pack_lists.result c.made_by.result c.made_by.ensures c.pack_lists.ensures.malformed
 
 pub returns-clause-read : goal.returns-clause-read
-returns-clause-read g c = fails_by _ unmade.Read c.pack_lists.result c.made_by.result c.made_by.ensures c.pack_lists.ensures.read
+returns-clause-read g c = fails_by _ (unmade.Fault fault.Read) c.pack_lists.result c.made_by.result c.made_by.ensures c.pack_lists.ensures.read

@@ -1,4 +1,4 @@
-use Rattle.std.proofs.Common.{◌<◌, ◌+◌, ◌-◌, ◌^◌, inl, refl, arith, sym, subst, ◌∙◌}
+use Rattle.std.proofs.Common.{◌<◌, ◌+◌, ◌-◌, ◌^◌, Result, inl, refl, arith, sym, subst, ◌∙◌}
 use Rattle.trace_outside.specs.Seen.{folder_seen}
 use Rattle.trace_outside.proofs.Keeping.{file_kept}
 use Rattle.event_cursor.proofs.Told.{told_all, told_both, told_map, told_again}
@@ -10,10 +10,12 @@ use Rattle.new_files.specs.Requested.{names_of}
 use Rattle.split_tool.specs.NewFiles.{LeavesUnfinished, new_files}
 use Rattle.time_merge.specs.LaneRows.{parts_of}
 use Rattle.time_merge.specs.declared.ending.End.{End}
+use Rattle.time_merge.specs.declared.ending.IoFault.{IoFault}
+use Rattle.time_merge.specs.declared.ending.IoFault.TheVariants as fault
 use Rattle.split_tool.proofs.Budget.{loaded_stops, passed_spent, same_spent, spent_all, spent_more, spent_stops, start_less}
-use Rattle.split_tool.proofs.Making.{created_last, created_stops, last_counted, progress_none, progress_more, progress_last, progress_stops, read_is, some_counted, still_lists, fresh_stand, write_is}
+use Rattle.split_tool.proofs.Making.{created_last, created_stops, last_counted, progress_none, progress_more, progress_last, progress_stops, fault_is, some_counted, still_lists, fresh_stand}
 use Rattle.split_tool.proofs.Numbering.{asked_all, asked_none, asked_stops, finished_all, names_new, numbered_more, numbered_none, stops_there}
-use Rattle.split_tool.proofs.Storing.{kept_twice, leaves_none, leaves_since, some_stored, stages_none}
+use Rattle.split_tool.proofs.Storing.{kept_twice, leaves_since, some_stored, stages_none}
 use Rattle.split_tool.proofs.splitting.split.Goals as goal
 
 pub returns-in_default-clause-told : goal.returns-in_default-clause-told
@@ -108,10 +110,10 @@ returns-in-Err-clause-told g c =
     c.loop-number.invariant.progress c.in-Err.ensures.told
 
 pub returns-in-Err-clause-read : goal.returns-in-Err-clause-read
-returns-in-Err-clause-read g c = λ is. let rose = c.in-Err.ensures.read (read_is c.in-Err.unmade c.ending.result c.ending.ensures is) in omega (arith, rose, c.loop-number.invariant.keeps.later)
+returns-in-Err-clause-read g c = λ is. let rose = c.in-Err.ensures.read (fault_is c.in-Err.unmade fault.Read c.ending.result c.ending.ensures is) in omega (arith, rose, c.loop-number.invariant.keeps.later)
 
 pub returns-in-Err-clause-write : goal.returns-in-Err-clause-write
-returns-in-Err-clause-write g c = λ is. let rose = c.in-Err.ensures.counts.writing (write_is c.in-Err.unmade c.ending.result c.ending.ensures is) in omega (arith, rose, c.loop-number.invariant.counts.writing)
+returns-in-Err-clause-write g c = λ is. let rose = c.in-Err.ensures.counts.writing (fault_is c.in-Err.unmade fault.Write c.ending.result c.ending.ensures is) in omega (arith, rose, c.loop-number.invariant.counts.writing)
 
 pub returns-clause-told : goal.returns-clause-told
 returns-clause-told g c =
@@ -134,7 +136,7 @@ returns-then-not-goes_on-clause-created g c =
     let bad = bad_reached rules header.layout file (parts_of (lanes_of c.args.lists.now)) in
     created_last header base file rules news bad c.loop-number.number (lanes_of c.loop-number.lists) (lanes_of c.make_file.new.lists) old mid new c.in-Ok-make_file.ends c.end_by.result
     (g.D.Folder.counts c.args.folder.now).created (g.D.Folder.counts c.loop-number.folder).created (g.D.Folder.counts c.make_file.new.folder).created
-    (sym c.goes_on.ensures ∙ c.if-not-goes_on.true) c.end_by.ensures
+    (sym c.goes_on.ensures ∙ c.if-not-goes_on.true)
     (m p.stands p.small)
     c.loop-number.invariant.least c.loop-number.invariant.created c.in-Ok-make_file.ensures.counts.created p)
     c.loop-number.invariant.progress c.in-Ok-make_file.ensures.told
@@ -162,11 +164,11 @@ returns-clause-created g c =
     c.loop-number.invariant.progress
 
 pub returns-then-not-goes_on-clause-unfinished : goal.returns-then-not-goes_on-clause-unfinished
-returns-then-not-goes_on-clause-unfinished g c = leaves_none c.in-Ok-make_file.ends.bad c.end_by.result _ _ c.end_by.ensures (c.in-Ok-make_file.ensures.counts.unfinished ∙ c.loop-number.invariant.unfinished)
+returns-then-not-goes_on-clause-unfinished g c = c.in-Ok-make_file.ensures.counts.unfinished ∙ c.loop-number.invariant.unfinished
 
 pub returns-in-Err-clause-unfinished : goal.returns-in-Err-clause-unfinished
 returns-in-Err-clause-unfinished g c = leaves_since c.ending.result _ _ _ c.loop-number.invariant.unfinished
-    (subst (λ (end : End). LeavesUnfinished (g.D.Folder.counts c.loop-number.folder).unfinished (g.D.Folder.counts c.make_file.new.folder).unfinished end) (sym c.ending.ensures) c.in-Err.ensures.counts.unfinished)
+    (subst (λ (end : Result End IoFault). LeavesUnfinished (g.D.Folder.counts c.loop-number.folder).unfinished (g.D.Folder.counts c.make_file.new.folder).unfinished end) (sym c.ending.ensures) c.in-Err.ensures.counts.unfinished)
 
 pub returns-in-Err-clause-counts : goal.returns-in-Err-clause-counts
 returns-in-Err-clause-counts g c = kept_twice _ _ _ c.loop-number.invariant.counts c.make_file.ensures.counts.keeps
@@ -218,7 +220,7 @@ returns-then-not-goes_on-clause-requested g c =
     let news = new_files rules base header file (parts_of (lanes_of c.args.lists.now)) in
     let bad = bad_reached rules header.layout file (parts_of (lanes_of c.args.lists.now)) in
     let long = last_counted header base file rules news bad c.loop-number.number (lanes_of c.loop-number.lists) (lanes_of c.make_file.new.lists) old mid new c.in-Ok-make_file.ends (sym c.goes_on.ensures ∙ c.if-not-goes_on.true) (m p.stands p.small) p in
-    asked_all base news (c.loop-number.number + 0) (g.D.Folder.requested c.args.folder.now) (g.D.Folder.requested c.make_file.new.folder) c.in-Ok-make_file.ends.bad c.end_by.result c.end_by.ensures
+    asked_all base news (c.loop-number.number + 0) (g.D.Folder.requested c.args.folder.now) (g.D.Folder.requested c.make_file.new.folder) c.end_by.result
     (names_new header base (file_items rules header.layout file (parts_of (lanes_of c.args.lists.now)))) (omega (arith, long)) more.requested)
     c.loop-number.invariant.progress c.in-Ok-make_file.ensures.told
 
