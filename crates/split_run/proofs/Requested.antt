@@ -1,5 +1,5 @@
 -- The names that a split asks for, and what it leaves of the folder.
-use Rattle.std.proofs.Common.{◌≡◌, ℕ, ◌+◌, List, ◌++◌, length, Option, None, Some, IfSome, inl, inr, refl, subst}
+use Rattle.std.proofs.Common.{◌≡◌, ℕ, ◌+◌, List, ◌++◌, length, Option, None, Some, Result, Ok, Err, IfSome, inl, inr, refl, subst}
 use Rattle.std.specs.Option.{option_map}
 use Rattle.trace_base.specs.declared.part.Part.{Part}
 use Rattle.trace_args.specs.Command.{SplitData}
@@ -8,6 +8,8 @@ use Rattle.dat_header.specs.Written.{without_instances}
 use Rattle.page_pool.specs.declared.lane.Lane.{Lane}
 use Rattle.time_merge.specs.declared.ending.End.{End}
 use Rattle.time_merge.specs.declared.ending.End.TheVariants as end
+use Rattle.time_merge.specs.declared.ending.IoFault.{IoFault}
+use Rattle.time_merge.specs.declared.ending.IoFault.TheVariants as fault
 use Rattle.split_pieces.specs.Cuts.{file_items}
 use Rattle.split_pieces.specs.declared.rules.Rules.{Rules}
 use Rattle.new_files.specs.Requested.{AskedFirst, names_of}
@@ -30,34 +32,32 @@ pub unbegun : (base : List ℕ) (means : Option Meaning) (before : List (List �
 unbegun base means before = asks_for (first_names base) means before before (λ news. asked_none (first_names base news) before)
 
 -- what the work on the files left
-pub folder_left : (base : List ℕ) (lanes : List Lane) (before now : FolderSeen) (answer : End) → LeavesFiles base lanes before now answer
+pub folder_left : (base : List ℕ) (lanes : List Lane) (before now : FolderSeen) (answer : Result End IoFault) → LeavesFiles base lanes before now answer
     → LeavesFolder base (status_of_end answer) before now
-folder_left base lanes before now end.Done leaves = leaves
-folder_left base lanes before now (end.Malformed cut) (inl finished) = inl finished
-folder_left base lanes before now (end.Malformed place) (inr cut) = inr cut.0
-folder_left base lanes before now end.Read leaves = leaves
-folder_left base lanes before now end.Write leaves = leaves
+folder_left base lanes before now (Ok end.Done) leaves = leaves
+folder_left base lanes before now (Ok (end.Malformed cut)) (inl finished) = inl finished
+folder_left base lanes before now (Ok (end.Malformed place)) (inr cut) = inr cut.0
+folder_left base lanes before now (Err fault.Read) leaves = leaves
+folder_left base lanes before now (Err fault.Write) leaves = leaves
 
 -- the names of some first files were asked for, whatever the bytes of the input are
 abbrev AskedSome : List ℕ → FolderSeen → FolderSeen → Type 0
 AskedSome base before now = (news : ℕ) × (now.requested ≡ before.requested ++ first_names base news)
 
-asked_some : (base : List ℕ) (lanes : List Lane) (before now : FolderSeen) (answer : End) → LeavesFiles base lanes before now answer → AskedSome base before now
-asked_some base lanes before now end.Done finished = (finished.0 + 0, finished.1.requested)
-asked_some base lanes before now (end.Malformed cut) (inl finished) = (finished.0 + 0, finished.1.requested)
-asked_some base lanes before now (end.Malformed place) (inr cut) = (cut.0.0 + 1, cut.0.1.requested)
-asked_some base lanes before now end.Read (inl finished) = (finished.0 + 0, finished.1.requested)
-asked_some base lanes before now end.Read (inr cut) = (cut.0 + 1, cut.1.requested)
-asked_some base lanes before now end.Write unmade = (unmade.count + 1, unmade.others.requested)
+asked_some : (base : List ℕ) (lanes : List Lane) (before now : FolderSeen) (answer : Result End IoFault) → LeavesFiles base lanes before now answer → AskedSome base before now
+asked_some base lanes before now (Ok end.Done) finished = (finished.0 + 0, finished.1.requested)
+asked_some base lanes before now (Ok (end.Malformed cut)) (inl finished) = (finished.0 + 0, finished.1.requested)
+asked_some base lanes before now (Ok (end.Malformed place)) (inr cut) = (cut.0.0 + 1, cut.0.1.requested)
+asked_some base lanes before now (Err fault.Read) (inl finished) = (finished.0 + 0, finished.1.requested)
+asked_some base lanes before now (Err fault.Read) (inr cut) = (cut.0 + 1, cut.1.requested)
+asked_some base lanes before now (Err fault.Write) unmade = (unmade.count + 1, unmade.others.requested)
 
 -- of files that are told, the first few or all
-asked_told : (news : List NewFile) (before now : List (List ℕ)) (answer : End) → new.AsksFor news before now answer → AskedFirst (names_of news) before now
-asked_told news before now end.Done asked = asked_few (names_of news) before now asked
-asked_told news before now (end.Malformed cut) asked = asked_few (names_of news) before now asked
-asked_told news before now end.Read asked = asked
-asked_told news before now end.Write asked = asked
+asked_told : (news : List NewFile) (before now : List (List ℕ)) (answer : Result End IoFault) → new.AsksFor news before now answer → AskedFirst (names_of news) before now
+asked_told news before now (Ok last) asked = asked_few (names_of news) before now asked
+asked_told news before now (Err kind) asked = asked
 
-pub asks_cut : (words : SplitData) (rules : Rules) (header dropped : Header) (parts : List (ℕ × Part)) (told : Option (List ℕ)) (lanes : List Lane) (before now : FolderSeen) (answer : End)
+pub asks_cut : (words : SplitData) (rules : Rules) (header dropped : Header) (parts : List (ℕ × Part)) (told : Option (List ℕ)) (lanes : List Lane) (before now : FolderSeen) (answer : Result End IoFault)
     → rules ≡ rules_of words → dropped ≡ without_instances header → parts ≡ taken_of words.cpu header.body
     → IfSome told (λ bytes. new.AsksFor (new_files rules words.base dropped bytes parts) before.requested now.requested answer) → LeavesFiles words.base lanes before now answer
     → AsksFor (first_names words.base) (option_map (split_by words header) told) before.requested now.requested

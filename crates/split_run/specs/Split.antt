@@ -1,6 +1,6 @@
 -- A split of a file with a header: the new files that it makes, and how it ends.
 -- Source: trace-cmd-split(1).
-use Rattle.std.specs.Prelude.{ℕ, Option, List, [], ◌*◌}
+use Rattle.std.specs.Prelude.{ℕ, Option, List, [], ◌*◌, Ok}
 use Rattle.trace_base.specs.declared.part.Part.{Part}
 use Rattle.trace_args.specs.Command.{SplitData}
 use Rattle.dat_header.specs.declared.header.Header.{Header}
@@ -49,7 +49,7 @@ split_items words header bytes = file_items (rules_of words) header.layout bytes
 abbrev pub split_by : SplitData → Header → List ℕ → Meaning
 split_by words header bytes = record {
   pieces = [];
-  status = status_of_end (split_end words header bytes);
+  status = status_of_end (Ok (split_end words header bytes));
   files = split_files words header bytes;
 }
 
