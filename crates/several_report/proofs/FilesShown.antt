@@ -1,5 +1,5 @@
 -- The report of files that are open, as what a run of it did.
-use Rattle.std.proofs.Common.{inl, inr, ◌≡◌, ◌≤◌, ◌<◌, ◌+◌, suc, ℕ, List, [], ◌∷◌, length, get_or, map, Option, Some, None, Result, IfSome, refl, sym, ap, ◌∙◌, subst, arith}
+use Rattle.std.proofs.Common.{inl, inr, ◌≡◌, ◌≤◌, ◌<◌, ◌+◌, suc, ℕ, List, [], ◌∷◌, length, get_or, map, Option, Some, None, Result, Ok, Err, IfErr, IfSome, refl, sym, ap, ◌∙◌, subst, arith}
 use Rattle.std.specs.Prelude.{Bool, true, false, if◌then◌else◌, IsSome, sum_by, Contains, ◌⊎◌, IfOk, fold, filter_map, slice_get}
 use Rattle.std.specs.Option.{option_map}
 use Rattle.std.specs.List.{cons_option, All}
@@ -11,6 +11,8 @@ use Rattle.trace_outside.specs.Causes.{Rose}
 use Rattle.trace_outside.specs.Names.{NamedFiles}
 use Rattle.multi_report.specs.declared.report.FilesEnd.{FilesEnd}
 use Rattle.multi_report.specs.declared.report.FilesEnd.TheVariants as end
+use Rattle.multi_report.specs.declared.report.FilesFault.{FilesFault}
+use Rattle.multi_report.specs.declared.report.FilesFault.TheVariants as fault
 use Rattle.multi_report.specs.Order as several
 use Rattle.multi_report.specs.Order.{FileCut, cut_in, cut_of_files, numbered_from, own_cut, own_cut_in, sooner}
 use Rattle.multi_report.specs.Reports.{AllReadTheirParts, AreSame, IsFilesReport, ReadRose, WriteRose}
@@ -102,30 +104,30 @@ faulty_at xs i lt each =
 -- THE END
 
 -- a report that began did not end for want of memory
-begun : (claim : Type 0) (answer : FilesEnd) → IfNoMemory (status_of_files answer) claim
-begun claim end.Done = tt
-begun claim (end.Malformed source cut) = tt
-begun claim (end.Read source) = tt
-begun claim end.Write = tt
+begun : (claim : Type 0) (answer : Result FilesEnd FilesFault) → IfNoMemory (status_of_files answer) claim
+begun claim (Ok end.Done) = tt
+begun claim (Ok (end.Malformed source cut)) = tt
+begun claim (Err (fault.Read source)) = tt
+begun claim (Err fault.Write) = tt
 
-module _ (words : ReportData) (old new : List SourceView) (before now : FolderSeen) (out out_now : SinkSeen) (answer : FilesEnd) (name : List ℕ) (opened : AreOpened words (names_in words) old before now) where
+module _ (words : ReportData) (old new : List SourceView) (before now : FolderSeen) (out out_now : SinkSeen) (answer : Result FilesEnd FilesFault) (name : List ℕ) (opened : AreOpened words (names_in words) old before now) where
   abbrev all_shown : List several.ShownFile
   all_shown = map shown_of old
 
   abbrev unread : Type 0
   unread = Rose before.counts.reading now.counts.reading ⊎ SomeFaulty (map file_in new)
 
-  writes : (e : FilesEnd) → IsFilesReport all_shown out.written out_now.written e → Writes (files_report all_shown) (status_of_files e) out.written out_now.written
-  writes end.Done report = (sym (ap ended_in report.1), report.0)
-  writes (end.Malformed source cut) report = (sym (ap ended_in report.1.1), report.0)
-  writes (end.Read source) report = report
-  writes end.Write report = report
+  writes : (e : Result FilesEnd FilesFault) → IsFilesReport all_shown out.written out_now.written e → Writes (files_report all_shown) (status_of_files e) out.written out_now.written
+  writes (Ok end.Done) report = (sym (ap ended_in report.1), report.0)
+  writes (Ok (end.Malformed source cut)) report = (sym (ap ended_in report.1.1), report.0)
+  writes (Err (fault.Read source)) report = report
+  writes (Err fault.Write) report = report
 
-  shows : (e : FilesEnd) → ReadRose e old new → WriteRose e out.faults out_now.faults → length new ≡ length old → Shows unread (status_of_files e) out out_now
-  shows end.Done read write same = tt
-  shows (end.Malformed source cut) read write same = tt
-  shows (end.Read source) read write same = inr (faulty_at new source (omega (arith, same, read.0)) (λ d. let rose = read.1 d in omega (arith, rose)))
-  shows end.Write read write same = write
+  shows : (e : Result FilesEnd FilesFault) → IfErr e (λ why. ReadRose why old new) → IfErr e (λ why. WriteRose why out.faults out_now.faults) → length new ≡ length old → Shows unread (status_of_files e) out out_now
+  shows (Ok end.Done) read write same = tt
+  shows (Ok (end.Malformed source cut)) read write same = tt
+  shows (Err (fault.Read source)) read write same = inr (faulty_at new source (omega (arith, same, read.0)) (λ d. let rose = read.1 d in omega (arith, rose)))
+  shows (Err fault.Write) read write same = write
 
   meant : (files : NamedFiles) → AreInputs words files (names_in words) old → files_report all_shown ≡ files_meaning words files
   meant files inputs = ap files_report inputs.shown ∙ report_same (map (shown_in words) inputs.inputs) ∙ sym (ap (inputs_mean words) inputs.read)
@@ -184,22 +186,22 @@ module _ (words : ReportData) (old new : List SourceView) (before now : FolderSe
         subst (λ (r : Result (List NamedInput) WrongInput). IsInputOf words r (Malformed place) name) (sym inputs.read)
         (subst (λ (o : Option FileCut). IfSome o (λ c. slice_get (names_in words) c.file ≡ Some name)) (sym cut.1 ∙ ap cut_of_files inputs.shown ∙ cut_same (map (shown_in words) inputs.inputs)) (there source lt is))
 
-    named_told : (told : Option NamedFiles) (e : FilesEnd) → IfSome told (λ files. AreInputs words files (names_in words) old)
+    named_told : (told : Option NamedFiles) (e : Result FilesEnd FilesFault) → IfSome told (λ files. AreInputs words files (names_in words) old)
         → IfSome (source_of e) (λ source. IfSome (slice_get (names_in words) source) (λ n. n ≡ name))
         → (All (λ source. IsSome source.told) old → IsFilesReport all_shown out.written out_now.written e)
         → IfSome told (λ files. IsInputOf words (inputs_in files (names_in words)) (status_of_files e) name)
     named_told None e inputs is report = tt
-    named_told (Some files) end.Done inputs is report = tt
-    named_told (Some files) (end.Malformed source cut) inputs is report = cut_named files source cut inputs is (report inputs.told).1
-    named_told (Some files) (end.Read source) inputs is report = tt
-    named_told (Some files) end.Write inputs is report = tt
+    named_told (Some files) (Ok end.Done) inputs is report = tt
+    named_told (Some files) (Ok (end.Malformed source cut)) inputs is report = cut_named files source cut inputs is (report inputs.told).1
+    named_told (Some files) (Err (fault.Read source)) inputs is report = tt
+    named_told (Some files) (Err fault.Write) inputs is report = tt
 
-    unread_of : (e : FilesEnd) → ReadRose e old new → length new ≡ length old → IfSome (source_of e) (λ source. IfSome (slice_get (names_in words) source) (λ n. n ≡ name))
+    unread_of : (e : Result FilesEnd FilesFault) → IfErr e (λ why. ReadRose why old new) → length new ≡ length old → IfSome (source_of e) (λ source. IfSome (slice_get (names_in words) source) (λ n. n ≡ name))
         → IsHeldNamed words (map file_in new) (status_of_files e) before now name
-    unread_of end.Done read same is = tt
-    unread_of (end.Malformed source cut) read same is = tt
-    unread_of end.Write read same is = tt
-    unread_of (end.Read source) read same is =
+    unread_of (Ok end.Done) read same is = tt
+    unread_of (Ok (end.Malformed source cut)) read same is = tt
+    unread_of (Err fault.Write) read same is = tt
+    unread_of (Err (fault.Read source)) read same is =
         let lt : source < length (names_in words) = omega (arith, read.0, opened.count) in
         let faulty = own_faulty new source (omega (arith, same, read.0)) (λ d. let rose = read.1 d in omega (arith, rose)) in
         record {
@@ -213,7 +215,7 @@ module _ (words : ReportData) (old new : List SourceView) (before now : FolderSe
         }
 
     pub files_shown : (All (λ source. IsSome source.told) old → IsFilesReport all_shown out.written out_now.written answer)
-        → ReadRose answer old new → WriteRose answer out.faults out_now.faults → AllReadTheirParts old new → AreSame old new
+        → IfErr answer (λ why. ReadRose why old new) → IfErr answer (λ why. WriteRose why out.faults out_now.faults) → AllReadTheirParts old new → AreSame old new
         → FilesReported words (map file_in new) (status_of_files answer) name (beside before out) (beside now out_now)
     files_shown report read write reads same = record {
       ended = ended_around (beside before out) (beside now out) (beside now out_now) (beside now out_now) around on_out unread unread (option_map (files_meaning words) before.files) (status_of_files answer) (λ why. why) (begun _ answer)

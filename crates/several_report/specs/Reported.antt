@@ -5,6 +5,8 @@ use Rattle.std.specs.Option.{option_map}
 use Rattle.trace_outside.specs.Causes.{Rose}
 use Rattle.multi_report.specs.declared.report.FilesEnd.{FilesEnd}
 use Rattle.multi_report.specs.declared.report.FilesEnd.TheVariants as end
+use Rattle.multi_report.specs.declared.report.FilesFault.{FilesFault}
+use Rattle.multi_report.specs.declared.report.FilesFault.TheVariants as fault
 use Rattle.multi_report.specs.Sources.{SourceView}
 use Rattle.restore_tool.specs.Answers.{SomeFaulty}
 use Rattle.dat_header.specs.Seen.{FileSeen}
@@ -51,23 +53,23 @@ OpensAll words sources before now (Err last) = (out : SinkSeen)
     → FilesReported words (map file_in sources) last.status last.file.now (beside before out) (beside now out)
 
 -- the answer for an end of the report
-abbrev pub status_of_files : FilesEnd → Status
-status_of_files end.Done = Done
-status_of_files (end.Malformed source cut) = Malformed cut
-status_of_files (end.Read source) = ReadFault
-status_of_files end.Write = WriteFault
+abbrev pub status_of_files : Result FilesEnd FilesFault → Status
+status_of_files (Ok end.Done) = Done
+status_of_files (Ok (end.Malformed source cut)) = Malformed cut
+status_of_files (Err (fault.Read file)) = ReadFault
+status_of_files (Err fault.Write) = WriteFault
 
 -- the file that it is of, if it is of one
-abbrev pub source_of : FilesEnd → Option ℕ
-source_of end.Done = None
-source_of (end.Malformed source cut) = Some source
-source_of (end.Read source) = Some source
-source_of end.Write = None
+abbrev pub source_of : Result FilesEnd FilesFault → Option ℕ
+source_of (Ok end.Done) = None
+source_of (Ok (end.Malformed source cut)) = Some source
+source_of (Err (fault.Read file)) = Some file
+source_of (Err fault.Write) = None
 
 -- it is the name of this place, if there is such a place
 abbrev pub StandsAt : List (List ℕ) → ℕ → List ℕ → Type 0
 StandsAt names place name = IfSome (slice_get names place) (λ there. there ≡ name)
 
 -- it is the name of the file that the end is of, if it is of one
-abbrev pub IsNameOfEnd : ReportData → FilesEnd → List ℕ → Type 0
+abbrev pub IsNameOfEnd : ReportData → Result FilesEnd FilesFault → List ℕ → Type 0
 IsNameOfEnd words answer name = IfSome (source_of answer) (λ source. StandsAt (names_in words) source name)

@@ -13,7 +13,7 @@ ghost use Rattle.several_report.specs.Opened.{AreOpened};
 ghost use Rattle.several_report.specs.Reported.{IsNameOfEnd, FilesReported};
 
 use crate::sources::{close_sources, input_at, open_sources};
-use multi_report::{FilesEnd, Source, report_files};
+use multi_report::{FilesEnd, FilesFault, Source, report_files};
 use report_context::{ItemLines, line_buffer};
 use run_endings::{JobEnd, Status};
 use std::alloc::Global;
@@ -94,25 +94,25 @@ fn print_sources<'a, I: File, O: Sink>(
 }
 
 // The answer for an end of the report, and the file that it is of.
-fn job_end_of<'a>(words: &ReportWords<'a>, end: FilesEnd) -> JobEnd<'a>
+fn job_end_of<'a>(words: &ReportWords<'a>, end: Result<FilesEnd, FilesFault>) -> JobEnd<'a>
     ensures status { result.status ≡ spec.status_of_files end }
     ensures named { Contains (names_in (report_view words.now)) result.file.now }
     ensures source { IsNameOfEnd (report_view words.now) end result.file.now }
 {
     match end {
-        FilesEnd::Done => JobEnd {
+        Ok(FilesEnd::Done) => JobEnd {
             status: Status::Done,
             file: words.input,
         },
-        FilesEnd::Malformed { source, cut } => JobEnd {
+        Ok(FilesEnd::Malformed { source, cut }) => JobEnd {
             status: Status::Malformed(cut),
             file: input_at(words, source as usize),
         },
-        FilesEnd::Read { source } => JobEnd {
+        Err(FilesFault::Read { file }) => JobEnd {
             status: Status::ReadFault,
-            file: input_at(words, source as usize),
+            file: input_at(words, file as usize),
         },
-        FilesEnd::Write => JobEnd {
+        Err(FilesFault::Write) => JobEnd {
             status: Status::WriteFault,
             file: words.input,
         },

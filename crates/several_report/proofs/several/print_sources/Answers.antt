@@ -1,4 +1,4 @@
-use Rattle.std.proofs.Common.{arith, map, refl, subst, sym}
+use Rattle.std.proofs.Common.{Ok, arith, map, refl, subst, sym}
 use Rattle.multi_report.specs.declared.report.FilesEnd.TheVariants as end
 use Rattle.trace_args.specs.Command.{report_view}
 use Rattle.run_endings.specs.declared.status.Status.{Status}
@@ -17,7 +17,7 @@ pub report_files-end-requires-clause-room : goal.report_files-end-requires-claus
 report_files-end-requires-clause-room g c κs live = lines_room g.I.File _ c.args.sources.now (omega arith)
 
 pub returns-in_default : goal.returns-in_default
-returns-in_default g c = λ before now opened. files_unheld (report_view c.args.words.now) _ _ before now _ _ end.Done _ opened (first_of (report_view c.args.words.now)) refl refl
+returns-in_default g c = λ before now opened. files_unheld (report_view c.args.words.now) _ _ before now _ _ (Ok end.Done) _ opened (first_of (report_view c.args.words.now)) refl refl
 
 pub returns : goal.returns
 returns g c = λ before now opened.
