@@ -1,5 +1,5 @@
 -- A report of processors' parts: the first line, and after it the lines of the reached items.
-use Rattle.std.proofs.Common.{◌≡◌, ℕ, suc, List, [], ◌∷◌, ◌++◌, map, take, Option, None, Some, IfSome, refl, sym, ap, ◌∙◌, subst}
+use Rattle.std.proofs.Common.{◌≡◌, ℕ, suc, List, [], ◌∷◌, ◌++◌, map, take, Option, None, Some, IfSome, Result, Ok, Err, refl, sym, ap, ◌∙◌, subst}
 use Rattle.std.proofs.lemmas.List.{append-nil, take-map}
 use Rattle.std.proofs.lemmas.List.Concat.{flat_map-cons}
 use Rattle.std.specs.Io.KnownBytes.{append_known}
@@ -14,6 +14,8 @@ use Rattle.subpage.specs.Arrangement.{Keyed}
 use Rattle.subpage.specs.Cut.{cut_of, reached_of}
 use Rattle.time_merge.specs.declared.ending.End.{End}
 use Rattle.time_merge.specs.declared.ending.End.TheVariants as code
+use Rattle.time_merge.specs.declared.ending.IoFault.{IoFault}
+use Rattle.time_merge.specs.declared.ending.IoFault.TheVariants as fault
 use Rattle.report_rounds.specs.Reports.{IsReport, lines_text}
 use Rattle.report_print.specs.ContextData.{ContextData}
 use Rattle.file_report.specs.declared.report.Recording.{Recording}
@@ -50,16 +52,16 @@ module _ (cpus : ℕ) (given : ContextData) (layout : Layout) (bytes : List ℕ)
       gained_both old mid now (cpus_line cpus) (lines_text (item_line given) items) first gained ∙ ap (append_known old) (report_text cpus given items)
 
   -- by how the rounds after the first line ended
-  report_written : (old mid now : Option (List ℕ)) (end : End) → Gained old mid (cpus_line cpus) → IsReport (item_line given) layout bytes parts mid now end
+  report_written : (old mid now : Option (List ℕ)) (end : Result End IoFault) → Gained old mid (cpus_line cpus) → IsReport (item_line given) layout bytes parts mid now end
       → Writes (prints (report_pieces cpus given items) (ended (cut_of layout bytes parts))) (status_of_end end) old now
-  report_written old mid now code.Done first report = (sym (ap ended report.1), whole old mid now first report.0)
-  report_written old mid now (code.Malformed cut) first report = (sym (ap ended report.1.1), whole old mid now first report.0)
-  report_written old mid now code.Read first report = (
+  report_written old mid now (Ok code.Done) first report = (sym (ap ended report.1), whole old mid now first report.0)
+  report_written old mid now (Ok (code.Malformed cut)) first report = (sym (ap ended report.1.1), whole old mid now first report.0)
+  report_written old mid now (Err fault.Read) first report = (
     suc report.0,
     gained_both old mid now (cpus_line cpus) (lines_text (item_line given) (take report.0 items)) first report.1
         ∙ ap (append_known old) (first_text cpus given items report.0),
   )
-  report_written old mid now code.Write first report =
+  report_written old mid now (Err fault.Write) first report =
       prefix_behind old mid now (cpus_line cpus) (lines_text (item_line given) items) [] (text_of (report_pieces cpus given items))
       (sym (report_text cpus given items) ∙ ap (λ rest. cpus_line cpus ++ rest) (sym (append-nil (lines_text (item_line given) items))))
       first report
@@ -68,7 +70,7 @@ module _ (given : ContextData) (shown : List (ℕ × Part)) (recording : Recordi
   abbrev means : List ℕ → Meaning
   means bytes = events_report (events_on given shown recording bytes)
 
-  pub parts_written : (told : Option (List ℕ)) (old mid now : Option (List ℕ)) (end : End) → Gained old mid (cpus_line recording.cpus)
+  pub parts_written : (told : Option (List ℕ)) (old mid now : Option (List ℕ)) (end : Result End IoFault) → Gained old mid (cpus_line recording.cpus)
       → IfSome told (λ bytes. IsReport (item_line given) recording.layout bytes shown mid now end) → WritesFor means told (status_of_end end) old now
   parts_written None old mid now end first report = tt
   parts_written (Some bytes) old mid now end first report = report_written recording.cpus given recording.layout bytes shown old mid now end first report

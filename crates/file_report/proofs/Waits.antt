@@ -1,5 +1,5 @@
 -- A report of events with the latencies after its lines.
-use Rattle.std.proofs.Common.{◌≡◌, ℕ, true, false, List, [], ◌∷◌, ◌++◌, length, take, Option, None, Some, IfNone, IfSome, inl, inr, refl, sym, ap, subst, ◌∙◌, arith, append-nil}
+use Rattle.std.proofs.Common.{◌≡◌, ℕ, true, false, List, [], ◌∷◌, ◌++◌, length, take, Option, None, Some, IfNone, IfSome, Result, Ok, Err, inl, inr, refl, sym, ap, subst, ◌∙◌, arith, append-nil}
 use Rattle.std.specs.Option.{option_map}
 use Rattle.std.proofs.lemmas.Bool.{cases_lt}
 use Rattle.std.proofs.lemmas.Grind.{flat_map-append}
@@ -12,6 +12,8 @@ use Rattle.trace_outside.proofs.PendingLemmas.{prefix_longer}
 use Rattle.subpage.specs.Cut.{reached_of}
 use Rattle.time_merge.specs.declared.ending.End.{End}
 use Rattle.time_merge.specs.declared.ending.End.TheVariants as code
+use Rattle.time_merge.specs.declared.ending.IoFault.{IoFault}
+use Rattle.time_merge.specs.declared.ending.IoFault.TheVariants as fault
 use Rattle.report_print.specs.ContextData.{ContextData}
 use Rattle.wakeup_pairs.specs.declared.wakeup_item.Pair.{Pair}
 use Rattle.wakeup_pairs.specs.Gathered.{gathered}
@@ -61,46 +63,46 @@ module _ (given : ContextData) (shown : List (ℕ × Part)) (recording : Recordi
   both bytes = shown_report true (events bytes)
 
   -- the lines were not all written
-  stopped_one : (bytes : List ℕ) (end : End) (old now : Option (List ℕ)) → is_whole end ≡ false → Writes (lines bytes) (status_of_end end) old now → Writes (both bytes) (status_of_end end) old now
-  stopped_one bytes code.Done old now other writes = absurd cc
-  stopped_one bytes (code.Malformed cut) old now other writes = absurd cc
-  stopped_one bytes code.Read old now other writes =
+  stopped_one : (bytes : List ℕ) (end : Result End IoFault) (old now : Option (List ℕ)) → is_whole end ≡ false → Writes (lines bytes) (status_of_end end) old now → Writes (both bytes) (status_of_end end) old now
+  stopped_one bytes (Ok code.Done) old now other writes = absurd cc
+  stopped_one bytes (Ok (code.Malformed cut)) old now other writes = absurd cc
+  stopped_one bytes (Err fault.Read) old now other writes =
       let few = first_of_more (lines bytes).pieces (waits_section (events bytes) ∷ []) writes.0 in
       (few.0, writes.1 ∙ ap (λ (pieces : List (List ℕ)). append_known old (text_of pieces)) (sym few.1))
-  stopped_one bytes code.Write old now other writes =
+  stopped_one bytes (Err fault.Write) old now other writes =
       subst (λ (whole : List ℕ). GainedPrefix old now whole) (sym (text_more (lines bytes).pieces (waits_section (events bytes))))
       (prefix_longer old now (text_of (lines bytes).pieces) (waits_section (events bytes)) writes)
 
-  pub waits_stopped : (told old now : Option (List ℕ)) (end : End) → is_whole end ≡ false → WritesFor lines told (status_of_end end) old now → WritesFor both told (status_of_end end) old now
+  pub waits_stopped : (told old now : Option (List ℕ)) (end : Result End IoFault) → is_whole end ≡ false → WritesFor lines told (status_of_end end) old now → WritesFor both told (status_of_end end) old now
   waits_stopped None old now end other writes = tt
   waits_stopped (Some bytes) old now end other writes = stopped_one bytes end old now other writes
 
   -- a fault of reading that shows later shows from the beginning on
-  pub stopped_shows : (early late : Type 0) (end : End) (before now : SinkSeen) → (late → early) → Shows late (status_of_end end) before now → Shows early (status_of_end end) before now
-  stopped_shows early late code.Done before now so shows = tt
-  stopped_shows early late (code.Malformed cut) before now so shows = tt
-  stopped_shows early late code.Read before now so shows = so shows
-  stopped_shows early late code.Write before now so shows = shows
+  pub stopped_shows : (early late : Type 0) (end : Result End IoFault) (before now : SinkSeen) → (late → early) → Shows late (status_of_end end) before now → Shows early (status_of_end end) before now
+  stopped_shows early late (Ok code.Done) before now so shows = tt
+  stopped_shows early late (Ok (code.Malformed cut)) before now so shows = tt
+  stopped_shows early late (Err fault.Read) before now so shows = so shows
+  stopped_shows early late (Err fault.Write) before now so shows = shows
 
-  whole_shows : (unread : Type 0) (end : End) (before now : SinkSeen) → is_whole end ≡ true → Shows unread (status_of_end end) before now
-  whole_shows unread code.Done before now whole = tt
-  whole_shows unread (code.Malformed cut) before now whole = tt
-  whole_shows unread code.Read before now whole = absurd cc
-  whole_shows unread code.Write before now whole = absurd cc
+  whole_shows : (unread : Type 0) (end : Result End IoFault) (before now : SinkSeen) → is_whole end ≡ true → Shows unread (status_of_end end) before now
+  whole_shows unread (Ok code.Done) before now whole = tt
+  whole_shows unread (Ok (code.Malformed cut)) before now whole = tt
+  whole_shows unread (Err fault.Read) before now whole = absurd cc
+  whole_shows unread (Err fault.Write) before now whole = absurd cc
 
   -- all of them were
-  whole_lines : (bytes : List ℕ) (end : End) (old mid : Option (List ℕ)) → is_whole end ≡ true → Writes (lines bytes) (status_of_end end) old mid
+  whole_lines : (bytes : List ℕ) (end : Result End IoFault) (old mid : Option (List ℕ)) → is_whole end ≡ true → Writes (lines bytes) (status_of_end end) old mid
       → (status_of_end end ≡ (lines bytes).status) × Gained old mid (text_of (lines bytes).pieces)
-  whole_lines bytes code.Done old mid whole writes = writes
-  whole_lines bytes (code.Malformed cut) old mid whole writes = writes
-  whole_lines bytes code.Read old mid whole writes = absurd cc
-  whole_lines bytes code.Write old mid whole writes = absurd cc
+  whole_lines bytes (Ok code.Done) old mid whole writes = writes
+  whole_lines bytes (Ok (code.Malformed cut)) old mid whole writes = writes
+  whole_lines bytes (Err fault.Read) old mid whole writes = absurd cc
+  whole_lines bytes (Err fault.Write) old mid whole writes = absurd cc
 
-  whole_both : (bytes : List ℕ) (end : End) (old now : Option (List ℕ)) → is_whole end ≡ true → status_of_end end ≡ (both bytes).status → Gained old now (text_of (both bytes).pieces) → Writes (both bytes) (status_of_end end) old now
-  whole_both bytes code.Done old now whole is gained = (is, gained)
-  whole_both bytes (code.Malformed cut) old now whole is gained = (is, gained)
-  whole_both bytes code.Read old now whole is gained = absurd cc
-  whole_both bytes code.Write old now whole is gained = absurd cc
+  whole_both : (bytes : List ℕ) (end : Result End IoFault) (old now : Option (List ℕ)) → is_whole end ≡ true → status_of_end end ≡ (both bytes).status → Gained old now (text_of (both bytes).pieces) → Writes (both bytes) (status_of_end end) old now
+  whole_both bytes (Ok code.Done) old now whole is gained = (is, gained)
+  whole_both bytes (Ok (code.Malformed cut)) old now whole is gained = (is, gained)
+  whole_both bytes (Err fault.Read) old now whole is gained = absurd cc
+  whole_both bytes (Err fault.Write) old now whole is gained = absurd cc
 
   -- that these pairs are those of the reached items
   abbrev pub HasPairs : List Pair → List ℕ → Type 0
@@ -111,7 +113,7 @@ module _ (given : ContextData) (shown : List (ℕ × Part)) (recording : Recordi
       ap (λ (piece : List ℕ). text_of (lines bytes).pieces ++ piece) (waits_are (events bytes) pairs are)
       ∙ sym (text_more (lines bytes).pieces (waits_section (events bytes)))
 
-  pub waits_written : (told old mid now : Option (List ℕ)) (end : End) (pairs : List Pair) → is_whole end ≡ true → WritesFor lines told (status_of_end end) old mid
+  pub waits_written : (told old mid now : Option (List ℕ)) (end : Result End IoFault) (pairs : List Pair) → is_whole end ≡ true → WritesFor lines told (status_of_end end) old mid
       → IfSome told (HasPairs pairs) → Gained mid now (section given pairs) → WritesFor both told (status_of_end end) old now
   waits_written None old mid now end pairs whole writes are gained = tt
   waits_written (Some bytes) old mid now end pairs whole writes are gained =
@@ -119,7 +121,7 @@ module _ (given : ContextData) (shown : List (ℕ × Part)) (recording : Recordi
       whole_both bytes end old now whole first.0
       (gained_both old mid now (text_of (lines bytes).pieces) (section given pairs) first.1 gained ∙ ap (append_known old) (both_text bytes pairs are))
 
-  pub waits_unwritten : (told old mid now : Option (List ℕ)) (end : End) (pairs : List Pair) → is_whole end ≡ true → WritesFor lines told (status_of_end end) old mid
+  pub waits_unwritten : (told old mid now : Option (List ℕ)) (end : Result End IoFault) (pairs : List Pair) → is_whole end ≡ true → WritesFor lines told (status_of_end end) old mid
       → IfSome told (HasPairs pairs) → GainedPrefix mid now (section given pairs) → WritesFor both told WriteFault old now
   waits_unwritten None old mid now end pairs whole writes are gained = tt
   waits_unwritten (Some bytes) old mid now end pairs whole writes are gained =
@@ -128,13 +130,13 @@ module _ (given : ContextData) (shown : List (ℕ × Part)) (recording : Recordi
       (sym (both_text bytes pairs are) ∙ ap (λ (rest : List ℕ). text_of (lines bytes).pieces ++ rest) (sym (append-nil (section given pairs))))
       first.1 gained
 
-  pub waits_shows : (unread : Type 0) (end : End) (before now : SinkSeen) → is_whole end ≡ true → Shows unread (status_of_end end) before now
+  pub waits_shows : (unread : Type 0) (end : Result End IoFault) (before now : SinkSeen) → is_whole end ≡ true → Shows unread (status_of_end end) before now
   waits_shows unread end before now whole = whole_shows unread end before now whole
 
 -- BY THE WORDS
 
 -- lines alone, or no memory for them
-pub lines_prints : (unread : Type 0) (means : List ℕ → Meaning) (told : Option (List ℕ)) (result : Option End) (before now : SinkSeen) → ((bytes : List ℕ) → (means bytes).files ≡ [])
+pub lines_prints : (unread : Type 0) (means : List ℕ → Meaning) (told : Option (List ℕ)) (result : Option (Result End IoFault)) (before now : SinkSeen) → ((bytes : List ℕ) → (means bytes).files ≡ [])
     → IfSome result (λ end. WritesFor means told (status_of_end end) before.written now.written) → IfSome result (λ end. Shows unread (status_of_end end) before now)
     → IfNone result (now ≡ before) → Prints unread (option_map means told) (status_or_memory result) before now
 lines_prints unread means told None before now none writes shows same =

@@ -21,7 +21,7 @@ use report_print::Context;
 use report_rounds::{RoundLanes, report_rounds};
 use run_endings::{Resources, Status, is_whole, status_of_end, status_of_pass};
 use std::thread::Threads;
-use time_merge::End;
+use time_merge::{End, IoFault};
 use trace_outside::{Failed, File, Gate, Pending, Sink};
 use wakeup_lat::{gather, put_wakeups};
 use wakeup_pairs::Wakeups;
@@ -34,7 +34,7 @@ pub(crate) fn print_lines<R: Threads + Sync, I: File, O: Sink, G: Gate>(
     shown: &Shown<'_>,
     file: &mut I,
     out: &mut O,
-) -> Option<End>
+) -> Option<Result<End, IoFault>>
     requires { IsShown shown.now }
     ensures writes { IfSome result (λ end. WritesFor (λ bytes. events_report (events_shown shown.now bytes))
         (I.bytes file.old) (status_of_end end) (O.written out.old) (O.written out.new)) }
@@ -57,7 +57,7 @@ pub(crate) fn print_lines<R: Threads + Sync, I: File, O: Sink, G: Gate>(
     };
     match print_cpus(cpus, &mut pending, out) {
         Ok(()) => {}
-        Err(Failed) => return Some(End::Write),
+        Err(Failed) => return Some(Err(IoFault::Write)),
     }
     let workers = Workers {
         rt: resources.rt,
