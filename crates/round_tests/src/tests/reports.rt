@@ -5,7 +5,8 @@ mod marks;
 mod pages;
 mod visits;
 
-use End::{Done, Malformed, Read, Write};
+use End::{Done, Malformed};
+use IoFault::{Read, Write};
 use cpu_workers::{SHARED_FROM, Workers};
 use marks::{Marks, len_of, mark};
 use pages::{Page, bytes_of, parts_of};
@@ -14,7 +15,7 @@ use std::alloc::{AllocError, Global};
 use std::test::Fail;
 use std::thread::Threads;
 use subpage::CutPlace;
-use time_merge::End;
+use time_merge::{End, IoFault};
 use trace_base::ByteText;
 use trace_outside::{File, Gate, MemFile, MemSink, NoGate, Pending, Sink};
 use trace_samples::layout;
@@ -37,7 +38,7 @@ fn report<R: Threads + Sync, F: File, O: Sink>(
     setup: Setup<'_>,
     file: &mut F,
     out: &mut O,
-) -> Result<Option<End>, AllocError> {
+) -> Result<Option<Result<End, IoFault>>, AllocError> {
     report_behind(rt, alloc, &NoGate, setup, file, out)
 }
 
@@ -49,7 +50,7 @@ fn report_behind<R: Threads + Sync, G: Gate, F: File, O: Sink>(
     setup: Setup<'_>,
     file: &mut F,
     out: &mut O,
-) -> Result<Option<End>, AllocError> {
+) -> Result<Option<Result<End, IoFault>>, AllocError> {
     let Setup {
         counts,
         room,
@@ -78,7 +79,7 @@ fn reports<R: Threads + Sync>(
     setup: Setup<'_>,
     pages: &[Page],
     text: &[u8],
-    end: End,
+    end: Result<End, IoFault>,
 ) -> Result<bool, AllocError> {
     let bytes = bytes_of(alloc, pages)?;
     let mut file = MemFile::new(ByteText::copy(alloc, bytes.as_slice())?);
@@ -160,7 +161,7 @@ fn row_reports<R: Threads + Sync>(
         room,
         workers,
     };
-    reports(rt, alloc, setup, pages.as_slice(), text.as_bytes(), end)
+    reports(rt, alloc, setup, pages.as_slice(), text.as_bytes(), Ok(end))
 }
 
 // How many workers there are, and from how many bytes on lanes are shared out to them: one; several in each round, in those
@@ -211,7 +212,7 @@ fn lanes_of_like_rates_form_a_sub_buffer_each_in_a_round(rt: HostRuntime) -> Res
         workers: (1, 0),
     };
     let end = report(&rt, rt.alloc(), setup, &mut file, &mut out)?;
-    assert!(rt; end == Some(Done));
+    assert!(rt; end == Some(Ok(Done)));
     assert!(rt; out.writes() <= 22, "{}", out.writes());
     Ok(())
 }
@@ -264,7 +265,7 @@ fn often_reports<R: Threads + Sync>(
             room: *room,
             workers: *workers,
         };
-        if !reports(rt, alloc, setup, pages, text, Done)? {
+        if !reports(rt, alloc, setup, pages, text, Ok(Done))? {
             return Ok(false);
         }
     }
@@ -408,7 +409,7 @@ struct Ending {
     space: u64,
     /// How many bytes a region has.
     room: u32,
-    end: End,
+    end: Result<End, IoFault>,
     /// How many bytes are read, where that is told.
     reads: Option<u64>,
     /// The text, where it is told.
@@ -420,7 +421,7 @@ const ENDINGS: &[Ending] = &[
         unread: 0,
         space: u64::MAX,
         room: 2,
-        end: Read,
+        end: Err(Read),
         reads: Some(0),
         text: Some(""),
     },
@@ -429,7 +430,7 @@ const ENDINGS: &[Ending] = &[
         unread: 8192,
         space: u64::MAX,
         room: 2,
-        end: Read,
+        end: Err(Read),
         reads: Some(4096),
         text: Some(""),
     },
@@ -438,7 +439,7 @@ const ENDINGS: &[Ending] = &[
         unread: 12_288,
         space: u64::MAX,
         room: 2,
-        end: Read,
+        end: Err(Read),
         reads: Some(8192),
         text: Some("d0d1e1e1e1"),
     },
@@ -446,7 +447,7 @@ const ENDINGS: &[Ending] = &[
         unread: 12_288,
         space: u64::MAX,
         room: 65_537,
-        end: Read,
+        end: Err(Read),
         reads: Some(12_288),
         text: Some("d0d1e1e1e1"),
     },
@@ -454,7 +455,7 @@ const ENDINGS: &[Ending] = &[
         unread: 16_384,
         space: u64::MAX,
         room: 2,
-        end: Done,
+        end: Ok(Done),
         reads: Some(16_384),
         text: Some("d0d1e1e1e1d2d3d0e4d5"),
     },
@@ -462,7 +463,7 @@ const ENDINGS: &[Ending] = &[
         unread: 16_384,
         space: u64::MAX,
         room: 65_537,
-        end: Done,
+        end: Ok(Done),
         reads: Some(16_384),
         text: Some("d0d1e1e1e1d2d3d0e4d5"),
     },
@@ -470,7 +471,7 @@ const ENDINGS: &[Ending] = &[
         unread: u64::MAX,
         space: 0,
         room: 65_537,
-        end: Write,
+        end: Err(Write),
         reads: None,
         text: Some(""),
     },
@@ -478,7 +479,7 @@ const ENDINGS: &[Ending] = &[
         unread: u64::MAX,
         space: 3,
         room: 65_537,
-        end: Write,
+        end: Err(Write),
         reads: None,
         text: Some("d0d"),
     },
@@ -486,7 +487,7 @@ const ENDINGS: &[Ending] = &[
         unread: u64::MAX,
         space: 19,
         room: 65_537,
-        end: Write,
+        end: Err(Write),
         reads: None,
         text: Some("d0d1e1e1e1d2d3d0e4d"),
     },
@@ -494,7 +495,7 @@ const ENDINGS: &[Ending] = &[
         unread: u64::MAX,
         space: 20,
         room: 65_537,
-        end: Done,
+        end: Ok(Done),
         reads: None,
         text: Some("d0d1e1e1e1d2d3d0e4d5"),
     },
@@ -520,8 +521,8 @@ fn ends_so<R: Threads + Sync>(
         Some(text) => out.bytes() == text.as_bytes(),
         None => true,
     };
-    let is_faulty = file.faults() == u64::from(ending.end == Read)
-        && out.faults() == u64::from(ending.end == Write);
+    let is_faulty = file.faults() == u64::from(ending.end == Err(Read))
+        && out.faults() == u64::from(ending.end == Err(Write));
     let is_read = ending.reads.is_none() || ending.reads == Some(file.reads());
     Ok(found == Some(ending.end) && is_text && is_faulty && is_read)
 }
@@ -539,17 +540,17 @@ fn lines_are_whole_before_a_failed_read_and_a_prefix_before_a_failed_write(
 // The bytes that can be written, the sub-buffers that are read, and those that are due. All 21 of the second processor are due.
 // The second of the first one has 306 lines before it: it is due from the 160th on, after the second one's 18 lines of two
 // bytes.
-const DUE: &[(u64, u64, u64, End)] = &[
-    (0, 2, 1 + 21, Write),
-    (1, 2, 1 + 21, Write),
-    (2, 3, 1 + 21, Write),
-    (36, 22, 1 + 21, Write),
-    (355, 22, 1 + 21, Write),
-    (356, 22, 2 + 21, Write),
-    (647, 22, 2 + 21, Write),
-    (648, 23, 2 + 21, Write),
-    (5437, 30, 9 + 21, Write),
-    (5438, 30, 9 + 21, Done),
+const DUE: &[(u64, u64, u64, Result<End, IoFault>)] = &[
+    (0, 2, 1 + 21, Err(Write)),
+    (1, 2, 1 + 21, Err(Write)),
+    (2, 3, 1 + 21, Err(Write)),
+    (36, 22, 1 + 21, Err(Write)),
+    (355, 22, 1 + 21, Err(Write)),
+    (356, 22, 2 + 21, Err(Write)),
+    (647, 22, 2 + 21, Err(Write)),
+    (648, 23, 2 + 21, Err(Write)),
+    (5437, 30, 9 + 21, Err(Write)),
+    (5438, 30, 9 + 21, Ok(Done)),
 ];
 
 fn reads_what_is_due<R: Threads + Sync>(

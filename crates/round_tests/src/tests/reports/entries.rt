@@ -78,7 +78,7 @@ fn entries<R: Threads + Sync>(
     };
     let end = report_behind(rt, alloc, &gate, setup, &mut file, &mut out)?;
     let text = lines(alloc)?;
-    if end == Some(Done) && out.bytes() == text.as_slice() {
+    if end == Some(Ok(Done)) && out.bytes() == text.as_slice() {
         Ok(Some(gate.entries.load(SeqCst)))
     } else {
         Ok(None)

@@ -93,7 +93,7 @@ fn met<R: Threads + Sync>(
         workers,
     };
     let end = report_behind(rt, alloc, &gate, setup, &mut file, &mut out)?;
-    if end == Some(Done) && out.bytes() == b"d0e1d0e1d0e1".as_slice() {
+    if end == Some(Ok(Done)) && out.bytes() == b"d0e1d0e1d0e1".as_slice() {
         Ok(Some(gate.met.load(SeqCst)))
     } else {
         Ok(None)
