@@ -5,7 +5,7 @@ use super::splits::{put_end, put_file, split_into, split_under, words_of};
 use super::traces::file_of;
 use super::watched::{Then, WatchedFile};
 use dat_header::read_header;
-use split_tool::End;
+use split_tool::{End, IoFault};
 use std::alloc::Global;
 use std::test::Fail;
 use trace_args::{Command, read_words};
@@ -36,7 +36,7 @@ fn put_name(alloc: Global, text: &mut String, folder: &MemFolder, name: &str) ->
 }
 
 // The files that stand after a split into three, how it ends, and how many were created.
-fn text_left(alloc: Global, folder: &MemFolder, end: End) -> Result<String, Fail> {
+fn text_left(alloc: Global, folder: &MemFolder, end: Result<End, IoFault>) -> Result<String, Fail> {
     let mut text = String::new(alloc);
     for name in ["part.1", "part.2", "part.3"] {
         put_name(alloc, &mut text, folder, name)?;

@@ -16,7 +16,7 @@ use split_pieces::Gauge;
 use std::alloc::Global;
 use std::test::Fail;
 use subpage::CutPlace;
-use time_merge::End;
+use time_merge::{End, IoFault};
 use trace_base::{Layout, Part};
 use trace_outside::{Failed, File, MemSink, Sink};
 use trace_samples::Page::{Lossy, Malformed, Of};
@@ -194,7 +194,7 @@ fn bytes_of(alloc: Global, cpus: [&[Page<'_>]; 2]) -> Result<Vec<u8>, Fail> {
 #[derive(Clone, Copy)]
 pub(super) struct Passed {
     pub(super) end: PieceEnd,
-    pub(super) packed: End,
+    pub(super) packed: Result<End, IoFault>,
     pub(super) pages: [u64; 2],
 }
 
@@ -235,7 +235,7 @@ fn put_packed(
 {
     let rest = put_sub_buffers(text, layout, packed, passed.pages[0])?;
     let rest = put_sub_buffers(text, layout, rest, passed.pages[1])?;
-    if passed.packed != End::Done || !rest.is_empty() {
+    if passed.packed != Ok(End::Done) || !rest.is_empty() {
         text.push_str("?")?;
     }
     text.push_str("/")?;
@@ -323,7 +323,7 @@ fn passes(
     reads: u64,
     then: Then,
     room: u64,
-) -> Result<Result<(PieceEnd, End), Failed>, Fail> {
+) -> Result<Result<(PieceEnd, Result<End, IoFault>), Failed>, Fail> {
     let mut file = WatchedFile {
         bytes: bytes_of(alloc, THREE)?,
         good: reads,
@@ -346,26 +346,31 @@ fn passes(
 
 // How many reads are good, what comes then, how many bytes there is room for, and how both passes end. There are three
 // sub-buffers, each of which both passes read.
-const FAULTS: &[(u64, Then, u64, Result<(PieceEnd, End), Failed>)] = &[
-    (6, Then::Fails, 8192, Ok((Done, End::Done))),
+const FAULTS: &[(
+    u64,
+    Then,
+    u64,
+    Result<(PieceEnd, Result<End, IoFault>), Failed>,
+)] = &[
+    (6, Then::Fails, 8192, Ok((Done, Ok(End::Done)))),
     (0, Then::Fails, 8192, Err(Failed)),
     (2, Then::Fails, 8192, Err(Failed)),
-    (3, Then::Fails, 8192, Ok((Done, End::Read))),
-    (5, Then::Fails, 8192, Ok((Done, End::Read))),
+    (3, Then::Fails, 8192, Ok((Done, Err(IoFault::Read)))),
+    (5, Then::Fails, 8192, Ok((Done, Err(IoFault::Read)))),
     (
         3,
         Then::Zeros,
         8192,
-        Ok((Done, End::Malformed(CutPlace { cpu: 0, page: 1 }))),
+        Ok((Done, Ok(End::Malformed(CutPlace { cpu: 0, page: 1 })))),
     ),
     (
         5,
         Then::Zeros,
         8192,
-        Ok((Done, End::Malformed(CutPlace { cpu: 1, page: 0 }))),
+        Ok((Done, Ok(End::Malformed(CutPlace { cpu: 1, page: 0 })))),
     ),
-    (6, Then::Fails, 0, Ok((Done, End::Write))),
-    (6, Then::Fails, 4096, Ok((Done, End::Write))),
+    (6, Then::Fails, 0, Ok((Done, Err(IoFault::Write)))),
+    (6, Then::Fails, 4096, Ok((Done, Err(IoFault::Write)))),
 ];
 
 #[test]

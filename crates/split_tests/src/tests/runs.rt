@@ -55,7 +55,11 @@ fn packs(
     match pass_piece(&mut file, &mut list, All, None, page, &mut out) {
         Ok(passed) => {
             let counted = passed.pages[0].saturating_mul(u64::from(layout.page));
-            Ok(passed.packed == End::Done && out.bytes() == want && counted == want.len() as u64)
+            Ok(
+                passed.packed == Ok(End::Done)
+                    && out.bytes() == want
+                    && counted == want.len() as u64,
+            )
         }
         Err(Failed) => Ok(false),
     }

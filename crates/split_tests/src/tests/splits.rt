@@ -8,7 +8,7 @@ ghost use Rattle.split_pieces.specs.Pieces.{IsUnit};
 use super::items::put_sub_buffers;
 use dat_header::{Body, Header, read_header};
 use split_pieces::Rules;
-use split_tool::{End, SplitPlan, SplitWork, lists_over, split};
+use split_tool::{End, IoFault, SplitPlan, SplitWork, lists_over, split};
 use std::alloc::{AllocError, Global};
 use std::test::Fail;
 use trace_args::SplitWords;
@@ -91,7 +91,7 @@ fn split_parts<F: File, D: Folder>(
     first: u32,
     parts: &[Part],
     folder: &mut D,
-) -> Result<End, Fail>
+) -> Result<Result<End, IoFault>, Fail>
     requires allowed { IsHeader plan.now.header.now }
     requires unit { IsUnit plan.now.rules.unit }
     requires base { length plan.now.base.now ≤ 4096 }
@@ -110,14 +110,14 @@ pub(super) fn split_under<F: File, D: Folder>(
     header: &Header,
     file: &mut F,
     folder: &mut D,
-) -> Result<End, Fail>
+) -> Result<Result<End, IoFault>, Fail>
     requires { IsHeader header.now }
 {
     let Body::Fly(parts) = &header.body else {
-        return Ok(End::Read);
+        return Ok(Err(IoFault::Read));
     };
     if !is_allowed(words) {
-        return Ok(End::Read);
+        return Ok(Err(IoFault::Read));
     }
     let plan = SplitPlan {
         header,
@@ -140,21 +140,21 @@ pub(super) fn split_into<D: Folder>(
     words: &SplitWords<'_>,
     bytes: Vec<u8>,
     folder: &mut D,
-) -> Result<End, Fail> {
+) -> Result<Result<End, IoFault>, Fail> {
     let mut file = MemFile::new(ByteText::from_vec(bytes));
     let Ok(header) = read_header(alloc, &mut file) else {
-        return Ok(End::Read);
+        return Ok(Err(IoFault::Read));
     };
     split_under(alloc, words, &header, &mut file, folder)
 }
 
 // How a split ended, in a word of the rows.
-pub(super) fn put_end(text: &mut String, end: End) -> Result<(), Fail> {
+pub(super) fn put_end(text: &mut String, end: Result<End, IoFault>) -> Result<(), Fail> {
     match end {
-        End::Done => text.push_str("done")?,
-        End::Malformed(cut) => write!(text, "malformed {} {}", cut.cpu, cut.page)?,
-        End::Read => text.push_str("read")?,
-        End::Write => text.push_str("write")?,
+        Ok(End::Done) => text.push_str("done")?,
+        Ok(End::Malformed(cut)) => write!(text, "malformed {} {}", cut.cpu, cut.page)?,
+        Err(IoFault::Read) => text.push_str("read")?,
+        Err(IoFault::Write) => text.push_str("write")?,
     }
     Ok(())
 }
