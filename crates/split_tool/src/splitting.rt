@@ -98,8 +98,6 @@ pub fn split<F: File, D: Folder>(
     ensures read { IsErrOf result IoFault.Read → Rose (F.faults file.old) (F.faults file.new) }
     ensures write { IsErrOf result IoFault.Write → Rose (D.counts folder.old).writing (D.counts folder.new).writing }
 {
-    // A file's length is a number of 64 bits, so there are fewer items than 128 bits count.
-    let _size = file.len();
     know_layouts(lists);
     let Ok(()) = pass_start(plan, file, lists) else {
         return Err(IoFault::Read);

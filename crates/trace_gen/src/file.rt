@@ -40,16 +40,8 @@ pub fn generate(alloc: Global, seed: u64, events: u32) -> Result<MemFile, AllocE
     let Ok(()) = write_file(&header, &parts, data.bytes(), &mut file) else {
         return Err(AllocError);
     };
-    is_in_memory(file.bytes());
     let bytes = ByteText::copy(alloc, file.bytes())?;
     Ok(MemFile::new(bytes))
-}
-
-// Bytes in memory are few enough for places of 64 bits, which a proof learns where their number is read.
-fn is_in_memory(bytes: &[u8])
-    ensures { length bytes.now < 2 ^ 64 }
-{
-    let _len = bytes.len();
 }
 
 // Writes the header with these parts, zero bytes up to the first sub-buffer, and the sub-buffers.

@@ -3,7 +3,7 @@
 // Contents are optional in each meaning: an object in memory tells its bytes, and one over the system does not. Faults are
 // counted by the object itself, so that a caller which answers a fault can be held to a count that rose.
 
-ghost use Rattle.std.specs.Prelude.{Option, ◌≡◌, ◌<◌, ◌≤◌, ◌++◌, ◌∷◌, List, ℕ, [], length, IfOk, IfSome, OnOk, OnErr, Some};
+ghost use Rattle.std.specs.Prelude.{Option, ◌≡◌, ◌<◌, ◌≤◌, ◌^◌, ◌++◌, ◌∷◌, List, ℕ, [], length, IfOk, IfSome, OnOk, OnErr, Some};
 ghost use Rattle.trace_outside.specs.declared.counts.Counts.{Counts};
 ghost use Rattle.trace_outside.specs.Causes.{HasCause, raised};
 ghost use Rattle.trace_outside.specs.Reading.{ReadsAt};
@@ -49,6 +49,9 @@ pub trait File {
 
     /// The size is the number of the bytes.
     ghost size_is: { (file : Self) → IfSome (bytes file) (λ told. length told ≡ size file) };
+
+    /// The size is a number of 64 bits, so no place in the file overflows.
+    ghost size_fits: { (file : Self) → size file < 2 ^ 64 };
 }
 
 /// Something that bytes are written to, one piece after another.

@@ -18,8 +18,6 @@ pub fn read_all<I: File>(file: &mut I, at: u64, into: &mut [u8]) -> Result<(), F
     ensures keeps { KeepsFile I.File file.old file.new }
     ensures cause { HasCause (I.faults file.old) (I.faults file.new) result }
 {
-    // The file ends at a number of 64 bits, so no place in it overflows.
-    let _size = file.len();
     let mut done = 0;
     while done < into.len() {
         let place = at + done as u64;

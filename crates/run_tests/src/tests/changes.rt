@@ -29,6 +29,8 @@ impl File for ChangingFile {
 
     ghost size_is = { λ f. tt };
 
+    ghost size_fits = { λ f. f.file.size_fits };
+
     fn len(&self) -> u64 {
         self.file.len()
     }

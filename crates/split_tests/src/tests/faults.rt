@@ -70,13 +70,7 @@ fn text_of_changed(alloc: Global, good: u64, then: Then) -> Result<String, Fail>
     let Ok(Command::Split(words)) = read_words(alloc, &words) else {
         return Ok(String::new(alloc));
     };
-    let mut file = WatchedFile {
-        bytes: file_of(alloc, SIX)?,
-        good: u64::MAX,
-        then,
-        faults: 0,
-        reads: 0,
-    };
+    let mut file = WatchedFile::new(file_of(alloc, SIX)?, u64::MAX, then);
     let Ok(header) = read_header(alloc, &mut file) else {
         return Ok(String::new(alloc));
     };

@@ -324,13 +324,7 @@ fn passes(
     then: Then,
     room: u64,
 ) -> Result<Result<(PieceEnd, Result<End, IoFault>), Failed>, Fail> {
-    let mut file = WatchedFile {
-        bytes: bytes_of(alloc, THREE)?,
-        good: reads,
-        then,
-        faults: 0,
-        reads: 0,
-    };
+    let mut file = WatchedFile::new(bytes_of(alloc, THREE)?, reads, then);
     let mut out = MemSink::new(alloc);
     out.short(1);
     out.fail_from(room.saturating_add(1));

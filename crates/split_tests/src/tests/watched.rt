@@ -1,6 +1,6 @@
 // A file that counts its calls, and fails where that is asked.
 
-ghost use Rattle.std.specs.Prelude.{None, length};
+ghost use Rattle.std.specs.Prelude.{◌≡◌, ◌<◌, ◌^◌, None, length};
 
 use trace_outside::{Failed, File};
 
@@ -15,30 +15,39 @@ pub(super) enum Then {
 /// A file of these bytes. So many of its reads are good.
 #[derive(Drop)]
 pub(super) struct WatchedFile {
-    pub(super) bytes: Vec<u8>,
+    bytes: Vec<u8>,
+    size: u64,
     pub(super) good: u64,
-    pub(super) then: Then,
-    pub(super) faults: u64,
+    then: Then,
+    faults: u64,
     pub(super) reads: u64,
+    ghost size_is: { length bytes.items ≡ size },
+    ghost size_fits: { size < 2 ^ 64 },
 }
 
 impl WatchedFile {
-    /// All reads of these bytes are good.
-    pub(super) fn good(bytes: Vec<u8>) -> WatchedFile {
+    pub(super) fn new(bytes: Vec<u8>, good: u64, then: Then) -> WatchedFile {
+        let size = bytes.len() as u64;
         WatchedFile {
             bytes,
-            good: u64::MAX,
-            then: Then::Fails,
+            size,
+            good,
+            then,
             faults: 0,
             reads: 0,
         }
+    }
+
+    /// All reads of these bytes are good.
+    pub(super) fn good(bytes: Vec<u8>) -> WatchedFile {
+        WatchedFile::new(bytes, u64::MAX, Then::Fails)
     }
 }
 
 impl File for WatchedFile {
     ghost bytes = { λ f. None };
 
-    ghost size = { λ f. length f.bytes.items };
+    ghost size = { λ f. f.size };
 
     ghost faults = { λ f. f.faults };
 
@@ -46,8 +55,10 @@ impl File for WatchedFile {
 
     ghost size_is = { λ f. tt };
 
+    ghost size_fits = { λ f. f.size_fits };
+
     fn len(&self) -> u64 {
-        self.bytes.len() as u64
+        self.size
     }
 
     fn read_at(&mut self, at: u64, into: &mut [u8]) -> Result<usize, Failed> {

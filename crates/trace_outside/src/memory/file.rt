@@ -1,8 +1,4 @@
-ghost use Rattle.std.specs.Prelude.{◌≡◌, ◌<◌, ◌-◌, min, length, refl, None, Some, IfOk, IsOk, IsErr, OnErr, MatchBool};
-ghost use Rattle.trace_outside.specs.Causes.{HasCause, FailsJustThere, raised};
-ghost use Rattle.trace_outside.specs.Reading.{ReadsAt};
-ghost use Rattle.trace_outside.specs.Faults.{asks_for, at_limit};
-ghost use Rattle.trace_outside.specs.Memory.{file_fault, file_limit};
+ghost use Rattle.std.specs.Prelude.{◌≡◌, ◌<◌, ◌^◌, length};
 
 use crate::memory::faults::{asks_for, at_limit};
 use crate::outside::{Failed, File};
@@ -12,13 +8,19 @@ use trace_base::ByteText;
 #[derive(Drop)]
 pub struct MemFile {
     text: ByteText,
+    size: u64,
     pub(super) reads: u64,
     pub(super) faults: u64,
     fault: Option<u64>,
     limit: Option<u32>,
+    ghost size_is: { length text ≡ size },
+    ghost size_fits: { size < 2 ^ 64 },
 }
 
 impl MemFile {
+    ghost use Rattle.std.specs.Prelude.{None, Some};
+    ghost use Rattle.trace_outside.specs.Memory.{file_fault, file_limit};
+
     /// A file of these bytes, just opened. None of its reads fails.
     pub fn new(bytes: ByteText) -> MemFile
         ensures bytes { ⟦<MemFile as File>⟧.bytes result ≡ Some bytes }
@@ -37,8 +39,10 @@ impl MemFile {
         ensures fault { file_fault result ≡ fault }
         ensures limit { file_limit result ≡ limit }
     {
+        let size = bytes.as_bytes().len() as u64;
         MemFile {
             text: bytes,
+            size,
             reads: 0,
             faults: 0,
             fault,
@@ -74,18 +78,26 @@ impl MemFile {
 }
 
 impl File for MemFile {
+    ghost use Rattle.std.specs.Prelude.{◌-◌, min, Some, IfOk, IsOk, IsErr, OnErr, MatchBool};
+    ghost use Rattle.trace_outside.specs.Causes.{HasCause, FailsJustThere, raised};
+    ghost use Rattle.trace_outside.specs.Reading.{ReadsAt};
+    ghost use Rattle.trace_outside.specs.Faults.{asks_for, at_limit};
+    ghost use Rattle.trace_outside.specs.Memory.{file_fault, file_limit};
+
     ghost bytes = { λ f. Some f.text };
 
-    ghost size = { λ f. length f.text };
+    ghost size = { λ f. f.size };
 
     ghost faults = { λ f. f.faults };
 
     ghost reads = { λ f. f.reads };
 
-    ghost size_is = { λ f. refl };
+    ghost size_is = { λ f. f.size_is };
+
+    ghost size_fits = { λ f. f.size_fits };
 
     fn len(&self) -> u64 {
-        self.text.as_bytes().len() as u64
+        self.size
     }
 
     fn read_at(&mut self, at: u64, into: &mut [u8]) -> Result<usize, Failed>
@@ -103,8 +115,7 @@ impl File for MemFile {
         ensures fault { file_fault self.new ≡ file_fault self.old }
         ensures limit { file_limit self.new ≡ file_limit self.old }
     {
-        let size = self.text.as_bytes().len() as u64;
-        if asks_for(self.fault, size, at, into.len() as u64) {
+        if asks_for(self.fault, self.size, at, into.len() as u64) {
             self.faults = self.faults.saturating_add(1);
             return Err(Failed);
         }

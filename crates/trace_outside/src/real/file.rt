@@ -1,4 +1,4 @@
-ghost use Rattle.std.specs.Prelude.{◌≡◌, None};
+ghost use Rattle.std.specs.Prelude.{◌≡◌, ◌<◌, ◌^◌, None};
 ghost use Rattle.std.specs.Fs.{metadata_len};
 
 use crate::outside::{Failed, File};
@@ -12,6 +12,7 @@ pub struct RealFile<T: Read + Seek + Drop> {
     size: u64,
     pub(super) faults: u64,
     pub(super) reads: u64,
+    ghost size_fits: { size < 2 ^ 64 },
 }
 
 impl<T: Read + Seek + Drop> RealFile<T> {
@@ -39,6 +40,8 @@ impl<T: Read + Seek + Drop> File for RealFile<T> {
     ghost reads = { λ f. f.reads };
 
     ghost size_is = { λ f. tt };
+
+    ghost size_fits = { λ f. f.size_fits };
 
     fn len(&self) -> u64 {
         self.size

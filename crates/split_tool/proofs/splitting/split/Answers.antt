@@ -1,4 +1,4 @@
-use Rattle.std.proofs.Common.{◌<◌, ◌+◌, ◌-◌, ◌^◌, Result, inl, refl, arith, sym, subst, ◌∙◌}
+use Rattle.std.proofs.Common.{◌+◌, ◌-◌, Result, inl, refl, arith, sym, subst, ◌∙◌}
 use Rattle.trace_outside.specs.Seen.{folder_seen}
 use Rattle.trace_outside.proofs.Keeping.{file_kept}
 use Rattle.event_cursor.proofs.Told.{told_all, told_both, told_map, told_again}
@@ -27,7 +27,7 @@ returns-in_default-clause-told g c =
 
 pub loop-number-init : goal.loop-number-init
 loop-number-init g c =
-    let size : g.F.File.size c.args.file.now < 2 ^ 64 = omega arith in
+    let size = g.met.F.File.size_fits c.args.file.now in
     let header = c.args.plan.now.header.now in
     let rules = c.args.plan.now.rules in
     let first = c.args.lists.now in
