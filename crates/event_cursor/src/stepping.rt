@@ -1,4 +1,4 @@
-ghost use Rattle.std.specs.Prelude.{◌≡◌, ◌+◌, ◌<◌, length, option_map};
+ghost use Rattle.std.specs.Prelude.{◌≡◌, ◌+◌, ◌<◌, ℕ, IfSome, get_or, length, option_map};
 ghost use Rattle.subpage.specs.Arrangement.{key_of};
 ghost use Rattle.subpage.specs.ItemView.{item_view};
 ghost use Rattle.subpage.specs.Marks.{IsMark, items_from};
@@ -61,7 +61,8 @@ pub fn head_key(lane: &Lane) -> Option<u64>
 #[inline]
 pub fn head_at<'a>(layout: &Layout, cursor: &Cursor, page: &'a [u8]) -> Option<(u64, Item<'a>)>
     requires { TellsAhead layout.now page.now cursor.now.mark cursor.now.high cursor.now.ahead }
-    ensures { IsHead cursor.now.high (items_from layout.now page.now cursor.now.mark) result }
+    ensures head { IsHead cursor.now.high (items_from layout.now page.now cursor.now.mark) result }
+    ensures bytes { IfSome result (λ head. (i : ℕ) → get_or page.now i 0 < 256) }
 {
     match cursor.ahead {
         None => None,
@@ -73,9 +74,10 @@ pub fn head_at<'a>(layout: &Layout, cursor: &Cursor, page: &'a [u8]) -> Option<(
 }
 
 /// The first item of the held sub-buffer that is not used up, with its key. `None` exactly where the held one is used up
-/// or none is held.
+/// or none is held. The held sub-buffer is of bytes.
 pub fn head(lane: &Lane) -> Option<(u64, Item<'_>)>
-    ensures { option_map (λ head. head_view lane.now.cpu head) result ≡ first_of (keyed_held lane.now) }
+    ensures head { option_map (λ head. head_view lane.now.cpu head) result ≡ first_of (keyed_held lane.now) }
+    ensures bytes { IfSome result (λ head. (i : ℕ) → get_or lane.now.page i 0 < 256) }
 {
     if lane.cursor.state != LaneState::Held {
         return None;

@@ -12,8 +12,8 @@ item_between-item-requires c =
     subst (TellsAhead c.args.layout.now c.args.page.now c.args.cursor.now.mark c.args.cursor.now.high) c.in-Some.is c.requires in
     here.inside
 
-pub returns-in-Some : goal.returns-in-Some
-returns-in-Some c =
+pub returns-in-Some-clause-head : goal.returns-in-Some-clause-head
+returns-in-Some-clause-head c =
     let l = c.args.layout.now in
     let page = c.args.page.now in
     let cursor = c.args.cursor.now in
@@ -21,3 +21,6 @@ returns-in-Some c =
     let rest = items_from l page (mark_of c.in-Some.ahead.behind) in
     let same : item_ahead page cursor.mark c.in-Some.ahead ≡ item_view c.item_between-item.result = sym c.item_between-item.ensures in
     (rest, (here.items ∙ ap (λ (x : ItemData). x ∷ rest) same, here.key ∙ ap (key_behind cursor.high) same))
+
+pub returns-in-Some-clause-bytes : goal.returns-in-Some-clause-bytes
+returns-in-Some-clause-bytes c = λ i. (c.type_inv.page i).fits

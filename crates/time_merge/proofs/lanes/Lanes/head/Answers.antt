@@ -16,4 +16,4 @@ returns c =
     let lt : i < length a.pool = subst (λ (v : LanesSeen). i < length v.all) (sym c.self.view_is) c.requires in
     let here : x ≡ get_or a.pool i x = c.index-lanes-i.is ∙ ap (λ (lanes : List Lane). get_or lanes i x) c.all-lanes.ensures in
     subst (λ (v : LanesSeen). (e : Lane) → option_map (λ head. head_view (get_or v.all i e).cpu head) c.head.result ≡ first_of (keyed_held (get_or v.all i e))) c.self.view_is
-    (λ e. subst (λ (y : Lane). option_map (λ head. head_view y.cpu head) c.head.result ≡ first_of (keyed_held y)) (here ∙ get_or_default a.pool i x e lt) c.head.ensures)
+    (λ e. subst (λ (y : Lane). option_map (λ head. head_view y.cpu head) c.head.result ≡ first_of (keyed_held y)) (here ∙ get_or_default a.pool i x e lt) c.head.ensures.head)
