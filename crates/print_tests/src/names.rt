@@ -180,6 +180,25 @@ fn of_equal_numbers_one_counts(rt: HostRuntime) -> Result<(), Fail> {
     Ok(())
 }
 
+/// One symbol in page 1, two in page 2, and so on up to five.
+const PAGES: &[u8] = b"10 T low\n1010 T a\n2010 T b\n2020 T bb\n3010 T c\n3020 T cc\n3030 T ccc
+4010 T d\n4020 T dd\n4030 T ddd\n4040 T dddd\n5010 T e\n5020 T ee\n5030 T eee\n5040 T eeee\n5050 T eeeee\n7000 T high\n";
+
+#[test]
+fn pages_have_few_symbols_and_more(rt: HostRuntime) -> Result<(), Fail> {
+    let symbols = symbols_of(rt.alloc(), PAGES, b"", b"")?;
+    let addresses = [
+        0x100f, 0x1010, 0x1fff, 0x200f, 0x2010, 0x201f, 0x2020, 0x300f, 0x3010, 0x3020, 0x302f,
+        0x3030, 0x3fff, 0x400f, 0x4010, 0x4020, 0x4030, 0x403f, 0x4040, 0x500f, 0x5010, 0x5040,
+        0x504f, 0x5050, 0x6000, 0x7000,
+    ];
+    let expected = b"fff low\n0 a\nfef a\nfff a\n0 b\nf b\n0 bb\nfef bb\n0 c\n0 cc\nf cc\n0 ccc
+fcf ccc\nfdf ccc\n0 d\n0 dd\n0 ddd\nf ddd\n0 dddd\nfcf dddd\n0 e\n0 eeee\nf eeee\n0 eeeee
+fb0 eeeee\n0 high\n";
+    finds(&rt, rt.alloc(), &symbols, &addresses, &[], expected)?;
+    Ok(())
+}
+
 /// So many lines of kallsyms, sixteen bytes apart.
 fn put_kallsyms(text: &mut String, count: u64) -> Result<(), AllocError> {
     for i in 0..count {
