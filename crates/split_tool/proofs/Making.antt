@@ -14,7 +14,6 @@ use Rattle.trace_base.specs.Layout.{IsLayout}
 use Rattle.trace_outside.specs.declared.counts.Counts.{Counts}
 use Rattle.trace_outside.specs.Causes.{raised}
 use Rattle.trace_outside.specs.Names.{NamedFiles, stored}
-use Rattle.trace_outside.specs.Seen.{FolderSeen}
 use Rattle.trace_outside.specs.Folders.{IsEmptySink, Stores}
 use Rattle.trace_outside.specs.Writing.{Gained}
 use Rattle.dat_header.specs.declared.header.Header.{Header}
@@ -57,7 +56,7 @@ use Rattle.split_tool.specs.NewFiles.{Creates, files_from, new_files, end_by, Is
 use Rattle.split_tool.specs.Started.{Started}
 use Rattle.split_tool.specs.Work.{AreLists, CanCut, IsWorkFor}
 use Rattle.split_tool.specs.declared.work.SplitWork.{SplitWork}
-use Rattle.new_files.specs.Stored.{NewFile, FilesStored}
+use Rattle.new_files.specs.Stored.{NewFile}
 use Rattle.split_tool.proofs.Beginning.{started_lists, started_bad}
 use Rattle.split_tool.proofs.FewItems.{Few, few_keyed, few_reached}
 use Rattle.split_tool.proofs.FileAfterFile.{goes_on, ends as no_files, fewer_left, some_length}

@@ -14,7 +14,7 @@ use denote.RattleType.{owns}
 use denote.Builtin.{RefOf}
 use denote.Slice.{slice_val}
 use denote.Text.{StrRefOf}
-use denote.Signature.{types_at, type_at, plain}
+use denote.Signature.{types_at, plain}
 use denote.Steps.{nothing}
 use denote.Triple.Entry.{alive}
 use denote.Triple.Walked.{Stays, stay_dropped, walk_of, Goes-dropped}

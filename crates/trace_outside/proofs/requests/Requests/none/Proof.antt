@@ -1,5 +1,5 @@
 -- `none` makes a value of no names.
-use Rattle.std.proofs.Common.{◌≡◌, List, [], ◌∷◌, refl}
+use Rattle.std.proofs.Common.{◌≡◌, [], ◌∷◌, refl}
 use mir.Val.{Val}
 use base.Logic.{emp}
 use types.Kit.{‵, raw, ◌⊛◌, ◌$◌, ◌∵◌, !, qed, by, keep, split, fjoin, use0}
@@ -9,7 +9,7 @@ use types.Part.{agg}
 use contract.Monad.{fact, fact_i}
 use contract.Running.{tables}
 use denote.RattleType.{owns}
-use denote.Signature.{types_at, type_at}
+use denote.Signature.{types_at}
 use denote.Steps.{nothing}
 use denote.Triple.Entry.{alive}
 use denote.Triple.Walked.{Stays, walk_of}
