@@ -13,48 +13,58 @@ use line_columns::Front;
 use report_print::{Context, close, prefix, put_loss};
 use trace_base::{Tail, write_digits};
 
+/// A row of spaces, as long as the deepest indent.
+static SPACES: [u8; 100] = [b' '; 100];
+
+#[inline(always)]
+fn spaces() -> &'static [u8]
+    ensures value { result.now ≡ replicate 100 32 }
+    ensures len { length result.now ≡ 100 }
+{
+    &SPACES
+}
+
 /// Puts so many spaces.
-#[tactic(auto, using(crate::proofs::Spaces::some_spaces))]
+#[inline(always)]
 fn put_spaces(count: usize, into: &mut Tail<'_>)
     requires { count ≤ 100 }
     ensures same_slice { lent into.new ≡ lent into.old }
     ensures value { held into.new ≡ put_held (held into.old) (replicate count 32) }
 {
-    let row = [b' '; 100];
-    into.put(&row[..count]);
+    into.put_front(spaces(), count);
 }
 
-/// Puts a duration at the right of its column.
+/// Puts a duration at the right of its column of 12 bytes, and the bar of 3 after it.
 fn put_nanos(nanos: u64, into: &mut Tail<'_>)
     ensures same_slice { lent into.new ≡ lent into.old }
-    ensures value { held into.new ≡ put_held (held into.old) (duration_column (Some nanos)) }
+    ensures value { held into.new ≡ put_held (held into.old) (duration_column (Some nanos) ++ codes " | ") }
 {
     let mut front = Front::new();
+    front.prepend_text(b" | ");
     front.prepend_duration(nanos);
     let text = front.as_bytes();
-    put_spaces(12_usize.saturating_sub(text.len()), into);
-    into.put(text);
+    put_spaces(15_usize.saturating_sub(text.len()), into);
+    into.put_piece(text);
 }
 
-/// Puts the column of the duration.
+/// Puts the column of the duration, and the bar.
 fn put_duration(duration: Option<u64>, into: &mut Tail<'_>)
     ensures same_slice { lent into.new ≡ lent into.old }
-    ensures value { held into.new ≡ put_held (held into.old) (duration_column duration) }
+    ensures value { held into.new ≡ put_held (held into.old) (duration_column duration ++ codes " | ") }
 {
     match duration {
         Some(nanos) => put_nanos(nanos, into),
-        None => put_spaces(12, into),
+        None => into.put(b"             | "),
     }
 }
 
 // The duration, the bar and the indent.
-#[tactic(auto, using(trace_base::proofs::TailJoins::put_held_twice))]
+#[tactic(auto, using(crate::proofs::Spaces::in_middle))]
 fn put_middle(duration: Option<u64>, depth: u32, into: &mut Tail<'_>)
     ensures same_slice { lent into.new ≡ lent into.old }
     ensures value { held into.new ≡ put_held (held into.old) (duration_column duration ++ (codes " | " ++ indent_text depth)) }
 {
     put_duration(duration, into);
-    into.put(b" | ");
     put_spaces(2 * depth.min(50) as usize, into);
 }
 
