@@ -84,7 +84,7 @@ fn put_function(func: u64, name: Option<&[u8]>, into: &mut Tail<'_>)
     ensures value { held into.new ≡ put_held (held into.old) (function_text func (option_copied name.entry)) }
 {
     match name {
-        Some(name) => into.put(name),
+        Some(name) => into.put_piece(name),
         None => put_address(func, into),
     }
 }
