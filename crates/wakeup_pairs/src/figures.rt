@@ -36,11 +36,7 @@ pub fn average(pairs: &[Pair]) -> u64
 pub fn longest(first: Pair, rest: &[Pair]) -> Pair
     ensures { result ≡ spec.longest first rest.now }
 {
-    let mut best = first;
-    for pair in rest {
-        best = longer(best, *pair);
-    }
-    best
+    rest.iter().fold(first, |best, pair| longer(best, *pair))
 }
 
 fn longer(one: Pair, two: Pair) -> Pair
@@ -57,11 +53,7 @@ fn longer(one: Pair, two: Pair) -> Pair
 pub fn shortest(first: Pair, rest: &[Pair]) -> Pair
     ensures { result ≡ spec.shortest first rest.now }
 {
-    let mut best = first;
-    for pair in rest {
-        best = shorter(best, *pair);
-    }
-    best
+    rest.iter().fold(first, |best, pair| shorter(best, *pair))
 }
 
 fn shorter(one: Pair, two: Pair) -> Pair
