@@ -7,6 +7,7 @@ use Rattle.std.specs.Str.{bytes_eq}
 use Rattle.std.specs.List.{list_any}
 use denote.Ref.{Bor}
 use Rattle.trace_outside.specs.Reading.{GivesBytesAt}
+use Rattle.trace_outside.specs.Seen.{FileSeen}
 use Rattle.dat_options.specs.declared.fault.OpenFault.{OpenFault}
 use Rattle.dat_options.specs.declared.fault.OpenFault.TheVariants.{BadSection, Truncated, Read}
 use Rattle.dat_options.specs.Answer.{AnswersUnlessFaulty, AnswersTold}
@@ -17,7 +18,6 @@ use Rattle.dat_header.specs.Refusal.{begins_with, word_fault}
 use Rattle.dat_header.specs.Found.{Found, ◌>>=◌, or_wrong}
 use Rattle.dat_header.specs.Header.{IsRefusal, last_in, last_word_in, first_word_in}
 use Rattle.dat_header.specs.Steps.{Steps, GivesThere}
-use Rattle.dat_header.specs.Seen.{FileSeen}
 use Rattle.dat_header.proofs.Steps.{erring, erring_is, answers_itself, kept_at, steps_found, steps_fault}
 use Rattle.dat_header.proofs.Words.{cut_same, there_is}
 

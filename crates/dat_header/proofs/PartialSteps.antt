@@ -7,7 +7,7 @@ use Rattle.dat_header.specs.Found.{Found}
 use Rattle.dat_header.specs.ItemsAt.{text_at}
 use Rattle.dat_header.specs.Partial.{cmdlines_at}
 use Rattle.dat_header.specs.Steps.{Steps}
-use Rattle.dat_header.specs.Seen.{FileSeen}
+use Rattle.trace_outside.specs.Seen.{FileSeen}
 use Rattle.dat_header.proofs.Steps.{steps_found}
 
 abbrev found_text : List ℕ → ℕ → Found (List ℕ)

@@ -12,11 +12,11 @@ use Rattle.trace_outside.specs.declared.piece.PieceFault.TheVariants as piece
 use Rattle.dat_options.specs.Answer.{AnswersTold, fault_of_piece}
 use Rattle.trace_outside.specs.Piece.{FillsFrom, GivesPiece}
 use Rattle.trace_outside.specs.Piece as pieces
+use Rattle.trace_outside.specs.Seen.{FileSeen}
 use Rattle.dat_options.proofs.Pieces.{read_of_piece, kept_piece}
 use Rattle.dat_header.specs.Found.{Found}
 use Rattle.dat_header.specs.ItemsAt.{bytes_at, number_at}
 use Rattle.dat_header.specs.Steps.{Steps}
-use Rattle.dat_header.specs.Seen.{FileSeen}
 use Rattle.dat_header.proofs.Steps.{erring_is, steps_then, steps_here, steps_failed}
 
 abbrev found_ok : {V : Type 0} → V → ℕ → Found V

@@ -12,7 +12,7 @@ use Rattle.dat_options.specs.Answer.{AnswersTold}
 use Rattle.dat_header.specs.Found.{Found, ◌>>=◌, or_wrong}
 use Rattle.dat_header.specs.ItemsAt.{bytes_at, number_at, before_nul, name_at, row_at}
 use Rattle.dat_header.specs.Steps.{Steps}
-use Rattle.dat_header.specs.Seen.{FileSeen}
+use Rattle.trace_outside.specs.Seen.{FileSeen}
 use Rattle.dat_header.proofs.Steps.{steps_same, steps_then, steps_here, steps_failed}
 
 -- whatever the rest from here answers, the whole answers

@@ -1,13 +1,13 @@
 -- One step of reading after another.
 use Rattle.std.proofs.Common.{◌≡◌, ℕ, ◌≤◌, ◌-◌, List, Option, None, Some, Result, Ok, Err, refl, sym, ap, subst, ◌∙◌, arith}
 use Rattle.trace_outside.specs.Causes.{Rose, raised}
+use Rattle.trace_outside.specs.Seen.{FileSeen}
 use Rattle.dat_options.specs.declared.fault.OpenFault.{OpenFault}
 use Rattle.dat_options.specs.declared.fault.OpenFault.TheVariants.{Read, Memory}
 use Rattle.dat_options.specs.Answer.{AnswersUnlessFaulty, AnswersTold, KeptAt, KeptUnlessRead}
 use Rattle.dat_header.specs.Found.{Found, ◌>>=◌}
 use Rattle.dat_header.specs.Header.{IsRefusal}
 use Rattle.dat_header.specs.Steps.{Steps}
-use Rattle.dat_header.specs.Seen.{FileSeen}
 
 abbrev pub erring : (V : Type 0) → OpenFault → Result V OpenFault
 erring V fault = Err fault

@@ -8,7 +8,7 @@ use Rattle.dat_header.specs.Found.{Found, ◌>>=◌, or_wrong}
 use Rattle.dat_header.specs.ItemsAt.{number_at, value_at, long_of, page_of}
 use Rattle.dat_header.specs.Allowed.{IsLong, IsPageSize}
 use Rattle.dat_header.specs.Steps.{Steps}
-use Rattle.dat_header.specs.Seen.{FileSeen}
+use Rattle.trace_outside.specs.Seen.{FileSeen}
 use Rattle.dat_header.proofs.Steps.{steps_then, steps_failed, steps_here, steps_wrong}
 
 abbrev checked : {V : Type 0} → OpenFault → ℕ → Option V → Found V

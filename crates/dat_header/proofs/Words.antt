@@ -7,6 +7,7 @@ use Rattle.std.proofs.lemmas.Slice.Eq.{bytes_eq-Decides}
 use Rattle.std.specs.Str.{bytes_eq}
 use Rattle.trace_outside.specs.Causes.{raised}
 use Rattle.trace_outside.specs.Reading.{GivesBytesAt}
+use Rattle.trace_outside.specs.Seen.{FileSeen}
 use Rattle.dat_options.specs.declared.fault.OpenFault.{OpenFault}
 use Rattle.dat_options.specs.declared.fault.OpenFault.TheVariants.{Truncated, Compressed, OtherVersion, Read}
 use Rattle.dat_options.specs.Answer.{AnswersUnlessFaulty, AnswersTold}
@@ -16,7 +17,6 @@ use Rattle.dat_header.specs.Items.{version_word}
 use Rattle.dat_header.specs.ItemsAt.{word_in, word_at}
 use Rattle.dat_header.specs.Steps.{Steps, GivesThere}
 use Rattle.dat_header.specs.Opening.{version_at}
-use Rattle.dat_header.specs.Seen.{FileSeen}
 use Rattle.dat_header.proofs.Steps.{erring_is, answers_itself, kept_still}
 
 bytes_apart : (xs ys : List ℕ) → (xs ≡ ys → ⊥) → bytes_eq xs ys ≡ false

@@ -6,8 +6,8 @@ use Rattle.dat_options.specs.Answer.{AnswersTold, KeptUnlessRead}
 use Rattle.dat_options.specs.declared.fault.OpenFault.{OpenFault}
 use Rattle.dat_options.specs.declared.fault.OpenFault.TheVariants.{Read}
 use Rattle.trace_outside.specs.declared.outside.File as file
+use Rattle.trace_outside.specs.Seen.{FileSeen, file_seen}
 use Rattle.dat_header.specs.Found.{Found}
-use Rattle.dat_header.specs.Seen.{FileSeen, file_seen}
 
 -- a step from a place on answered what is expected of the file's bytes, and read at most up to the place that it answers, or
 -- whatever it answered at most up to the file's end

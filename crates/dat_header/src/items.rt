@@ -4,7 +4,7 @@ ghost use Rattle.std.specs.Prelude.{◌≡◌, ◌+◌, ◌^◌, ◌<◌, ◌≤
 ghost use Rattle.trace_base.specs.declared.order.Order.TheVariants.{Little};
 ghost use Rattle.dat_header.specs.Allowed.{IsSystemName};
 ghost use Rattle.dat_header.specs.Header.{IsRefusal};
-ghost use Rattle.dat_header.specs.Seen.{file_seen};
+ghost use Rattle.trace_outside.specs.Seen.{file_seen};
 ghost use Rattle.dat_header.specs.Steps.{Finds, GivesThere, Passes};
 ghost use Rattle.dat_header.specs.ItemsAt.{word_in, word_at, bytes_at, number_at, text_at, name_at};
 

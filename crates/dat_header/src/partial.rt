@@ -3,9 +3,9 @@
 ghost use Rattle.std.specs.Prelude.{◌≡◌, ◌^◌, ◌<◌, ◌≤◌, [], length, IfOk, IsErrOf};
 ghost use Rattle.trace_outside.specs.Causes.{Rose, raised};
 ghost use Rattle.trace_outside.specs.Keeping.{KeepsFile};
+ghost use Rattle.trace_outside.specs.Seen.{file_seen};
 ghost use Rattle.dat_header.specs.Partial.{IsPartial, ReadsPartial, cmdlines_at, partial_header, partial_of};
 ghost use Rattle.dat_options.specs.Answer.{KeptUnlessRead};
-ghost use Rattle.dat_header.specs.Seen.{file_seen};
 ghost use Rattle.dat_header.specs.Steps.{Finds, Steps};
 
 use crate::carried::read_described;

@@ -3,10 +3,10 @@
 ghost use Rattle.std.specs.Prelude.{◌≡◌, ◌≤◌, IfOk, IsErrOf};
 ghost use Rattle.trace_outside.specs.Causes.{Rose, raised};
 ghost use Rattle.trace_outside.specs.Keeping.{KeepsFile};
+ghost use Rattle.trace_outside.specs.Seen.{file_seen};
 ghost use Rattle.dat_header.specs.Header.{ReadsHeader, header_of};
 ghost use Rattle.dat_header.specs.Allowed.{IsHeader, IsBody};
 ghost use Rattle.dat_options.specs.Answer.{KeptUnlessRead};
-ghost use Rattle.dat_header.specs.Seen.{file_seen};
 ghost use Rattle.dat_header.specs.Steps.{Steps};
 
 use crate::carried::read_carried;

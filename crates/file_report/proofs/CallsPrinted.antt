@@ -4,6 +4,7 @@ use Rattle.std.proofs.lemmas.List.Concat.{flat_map-cons}
 use Rattle.std.specs.List.{flat_map}
 use Rattle.trace_base.specs.declared.part.Part.{Part}
 use Rattle.trace_outside.specs.Writing.{Gained, GainedPrefix}
+use Rattle.trace_outside.specs.Pieces.{text_of}
 use Rattle.subpage.specs.declared.cut_place.CutPlace.{CutPlace}
 use Rattle.subpage.specs.Cut.{cut_of}
 use Rattle.report_print.specs.ContextData.{ContextData}
@@ -18,7 +19,6 @@ use Rattle.file_report.specs.Meaning.{calls_report}
 use Rattle.run_endings.specs.Outside.{SinkSeen}
 use Rattle.file_report.specs.Report.{call_pieces, events_on}
 use Rattle.report_context.specs.Lines.{cpus_line}
-use Rattle.multi_report.specs.Pieces.{text_of}
 use Rattle.run_endings.specs.Output.{Shows, Writes, WritesFor}
 
 calls_lines : (given : ContextData) (calls : List Call) → flat_map (call_line given) calls ≡ text_of (map (call_line given) calls)

@@ -6,10 +6,10 @@ use Rattle.std.specs.Io.KnownBytes.{append_known}
 use Rattle.trace_outside.specs.Writing.{Gained, GainedPrefix}
 use Rattle.trace_outside.proofs.Gains.{gained_both, prefix_behind}
 use Rattle.trace_outside.proofs.PendingLemmas.{prefix_longer}
+use Rattle.trace_outside.specs.Pieces.{text_of}
 use Rattle.file_report.specs.Meaning.{latency_report}
 use Rattle.report_context.specs.Lines.{cpus_line}
 use Rattle.run_endings.specs.Output.{WritesFor}
-use Rattle.multi_report.specs.Pieces.{text_of}
 use Rattle.run_endings.specs.declared.status.Status.TheVariants.{Done, ReadFault, WriteFault}
 
 bytes_alone : (bytes : List ℕ) (n : ℕ) → text_of (take n (map (λ byte. byte ∷ []) bytes)) ≡ take n bytes

@@ -8,6 +8,7 @@ use Rattle.trace_base.specs.declared.part.Part.{Part}
 use Rattle.trace_outside.specs.Writing.{Gained, GainedPrefix}
 use Rattle.trace_outside.proofs.Gains.{gained_both, prefix_behind}
 use Rattle.trace_outside.proofs.PendingLemmas.{prefix_longer}
+use Rattle.trace_outside.specs.Pieces.{text_of}
 use Rattle.line_holes.specs.Holes.{filled_bytes, filled_lines, hole_time}
 use Rattle.line_holes.proofs.AlongLaws.{along_take}
 use Rattle.subpage.specs.Arrangement.{Keyed}
@@ -25,7 +26,6 @@ use Rattle.file_report.specs.Meaning.{events_report}
 use Rattle.report_context.specs.Lines.{cpus_line, item_line}
 use Rattle.file_report.specs.Report.{entry_line, events_on, report_pieces}
 use Rattle.run_endings.specs.Ends.{status_of_end}
-use Rattle.multi_report.specs.Pieces.{text_of}
 use Rattle.run_endings.specs.Output.{Writes, WritesFor}
 
 lines_are : (given : ContextData) (items : List Keyed) → lines_text (item_line given) items ≡ text_of (filled_lines None (map (entry_line given) items))

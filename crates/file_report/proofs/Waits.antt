@@ -9,6 +9,7 @@ use Rattle.trace_base.specs.declared.part.Part.{Part}
 use Rattle.trace_outside.specs.Writing.{Gained, GainedPrefix}
 use Rattle.trace_outside.proofs.Gains.{gained_both, prefix_behind}
 use Rattle.trace_outside.proofs.PendingLemmas.{prefix_longer}
+use Rattle.trace_outside.specs.Pieces.{text_of}
 use Rattle.subpage.specs.Cut.{reached_of}
 use Rattle.time_merge.specs.declared.ending.End.{End}
 use Rattle.time_merge.specs.declared.ending.End.TheVariants as code
@@ -31,7 +32,6 @@ use Rattle.run_endings.specs.Outside.{SinkSeen}
 use Rattle.run_endings.specs.Output.{Shows, Writes, WritesFor}
 use Rattle.file_report.specs.Report.{Events, events_on, reached_items, waits_section}
 use Rattle.run_endings.specs.Ends.{is_whole, status_of_end, status_or_memory}
-use Rattle.multi_report.specs.Pieces.{text_of}
 use Rattle.run_endings.proofs.Endings.{unprinted}
 use Rattle.run_endings.proofs.Printed.{printed_of}
 

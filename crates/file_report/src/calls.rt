@@ -4,7 +4,7 @@ ghost use Rattle.std.specs.Option.{option_map};
 ghost use Rattle.std.specs.Prelude.{◌≡◌, ◌≤◌, [], length};
 ghost use Rattle.trace_outside.specs.Causes.{Rose, raised};
 ghost use Rattle.trace_outside.specs.Pending.{PutsText, on_way};
-ghost use Rattle.multi_report.specs.Pieces.{text_of};
+ghost use Rattle.trace_outside.specs.Pieces.{text_of};
 ghost use Rattle.run_endings.specs.Ending.{IfNoMemory, Prints};
 ghost use Rattle.run_endings.specs.Progress.{parts_size};
 ghost use Rattle.file_report.specs.Meaning.{calls_report};

@@ -7,13 +7,13 @@ use Rattle.std.proofs.lemmas.Option.{slice_get-get_or}
 use Rattle.trace_outside.specs.Pending.{Holds}
 use Rattle.trace_outside.specs.Writing.{Gained, GainedPrefix}
 use Rattle.trace_outside.proofs.PendingLemmas.{flush_stopped, flushed, prefix_longer}
+use Rattle.trace_outside.specs.Pieces.{text_of}
 use Rattle.subpage.specs.Arrangement.{Keyed}
 use Rattle.multi_report.specs.declared.report.FilesEnd.{FilesEnd}
 use Rattle.multi_report.specs.declared.report.FilesFault.{FilesFault}
 use Rattle.multi_report.specs.declared.report.FilesFault.TheVariants as fault
 use Rattle.multi_report.specs.Order.{ShownFile, FileCut, cut_of_files, in_file}
 use Rattle.multi_report.specs.Sources.{SourceView, shown_of}
-use Rattle.multi_report.specs.Pieces.{text_of}
 use Rattle.multi_report.specs.Reports.{IsEnded, line_in, line_of}
 use Rattle.multi_report.specs.Turns.{Going, HasBegun, IsTurned, ReportState}
 

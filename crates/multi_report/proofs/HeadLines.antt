@@ -7,9 +7,9 @@ use Rattle.trace_outside.specs.Causes.{HasCause, Rose}
 use Rattle.trace_outside.specs.Pending.{Holds, OnWay, Puts, PutsText}
 use Rattle.trace_outside.specs.Writing.{GainedPrefix}
 use Rattle.trace_outside.proofs.PendingLemmas.{prefix_longer}
+use Rattle.trace_outside.specs.Pieces.{text_of}
 use Rattle.multi_report.specs.Taking.{Put, PutPart}
 use Rattle.multi_report.specs.Sources.{SourceView, shown_of}
-use Rattle.multi_report.specs.Pieces.{text_of}
 use Rattle.multi_report.specs.Reports.{head_line}
 
 pub heads_text : {S : Type 0} (f : S → SourceView) (xs : List S) → flat_map (λ x. head_line (shown_of (f x))) xs ≡ text_of (map head_line (map shown_of (map f xs)))

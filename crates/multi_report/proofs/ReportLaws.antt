@@ -6,13 +6,13 @@ use Rattle.std.proofs.lemmas.List.{length-map}
 use Rattle.trace_outside.specs.Pending.{Holds}
 use Rattle.trace_outside.specs.Writing.{Gained, GainedPrefix}
 use Rattle.trace_outside.proofs.PendingLemmas.{holds_nothing}
+use Rattle.trace_outside.specs.Pieces.{text_of}
 use Rattle.multi_report.specs.declared.report.FilesEnd.{FilesEnd}
 use Rattle.multi_report.specs.declared.report.FilesFault.{FilesFault}
 use Rattle.multi_report.specs.declared.report.FilesFault.TheVariants as fault
 use Rattle.multi_report.specs.Order.{ShownFile, cut_of_files, reached}
 use Rattle.tournament_tree.specs.declared.slot_key.SlotKey.{SlotKey}
 use Rattle.multi_report.specs.Sources.{SourceView, HasOwnLayouts, IsFreshSource, IsKnown, Keeps, shown_of, next_key, to_come_of}
-use Rattle.multi_report.specs.Pieces.{text_of}
 use Rattle.multi_report.specs.Reports.{AreSame, IsEnded, IsFilesReport, ReadRose, head_line, lines, pieces}
 use Rattle.multi_report.specs.Turns.{Going, IsTurned, IsUnderway, ReportState, lines_left, state_of}
 use Rattle.multi_report.proofs.Files.{Tied, all_fresh_known, fresh_left, keeps_same, known_all, left_keeps, same_shown}

@@ -8,6 +8,7 @@ use Rattle.std.proofs.lemmas.List.Sums.{sum_by-set, get_or-le-sum_by}
 use Rattle.std.proofs.Math.Seq.{map-set_same}
 use Rattle.trace_outside.specs.Pending.{OnWay}
 use Rattle.trace_outside.specs.Writing.{Gained, GainedPrefix}
+use Rattle.trace_outside.specs.Pieces.{text_of}
 use Rattle.subpage.specs.Arrangement.{Keyed, key_of, cpu_of}
 use Rattle.subpage.specs.declared.cut_place.CutPlace.{CutPlace}
 use Rattle.subpage.specs.CutPlaces.{cut_at}
@@ -27,7 +28,6 @@ use Rattle.multi_report.specs.declared.taking.Taken.{Taken}
 use Rattle.multi_report.specs.declared.taking.Taken.TheVariants as took
 use Rattle.multi_report.specs.Order.{ShownFile, cut_in, in_file, cut_of_files}
 use Rattle.multi_report.specs.Sources.{SourceView, IsKnown, IsPrepared, IsSame, due, shown_of, next_key, to_come_of, work, cut_left}
-use Rattle.multi_report.specs.Pieces.{text_of}
 use Rattle.multi_report.specs.Reports.{AreSame, IsEnded, WriteRose, line_in, line_of, lines}
 use Rattle.multi_report.specs.Taking.{ItemTaken, TakenFrom}
 use Rattle.multi_report.specs.Turns.{AreReadied, Going, IsUnderway, lines_left, state_of}

@@ -1,7 +1,6 @@
 pub mod Order
 pub mod Merge
 pub mod Sources
-pub mod Pieces
 pub mod Reports
 pub mod Nexts
 pub mod Taking

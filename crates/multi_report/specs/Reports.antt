@@ -4,6 +4,7 @@ use Rattle.std.specs.Prelude.{◌≡◌, ◌<◌, ℕ, ◌++◌, List, [], ◌�
 use Rattle.std.specs.Fmt.{decimal}
 use Rattle.trace_outside.specs.Causes.{Rose}
 use Rattle.trace_outside.specs.Writing.{Gained, GainedPrefix}
+use Rattle.trace_outside.specs.Pieces.{text_of}
 use Rattle.subpage.specs.Arrangement.{Keyed}
 use Rattle.multi_report.specs.declared.report.FilesEnd.{FilesEnd}
 use Rattle.multi_report.specs.declared.report.FilesEnd.TheVariants as code
@@ -11,7 +12,6 @@ use Rattle.multi_report.specs.declared.report.FilesFault.{FilesFault}
 use Rattle.multi_report.specs.declared.report.FilesFault.TheVariants as fault
 use Rattle.subpage.specs.CutPlaces.{cut_at}
 use Rattle.multi_report.specs.Order.{ShownFile, FileItem, FileCut, cut_of_files, reached}
-use Rattle.multi_report.specs.Pieces.{text_of}
 use Rattle.multi_report.specs.Sources.{SourceView, IsSame, ReadsItsParts}
 
 -- a file's name, a colon and a space

@@ -3,11 +3,11 @@ use Rattle.std.specs.Prelude.{◌≡◌, ◌<◌, ◌≤◌, ◌++◌, ℕ, List
 use Rattle.std.specs.List.{All}
 use Rattle.tournament_tree.specs.declared.slot_key.SlotKey.{SlotKey}
 use Rattle.trace_outside.specs.Pending.{Holds}
+use Rattle.trace_outside.specs.Pieces.{text_of}
 use Rattle.multi_report.specs.declared.report.FilesEnd.{FilesEnd}
 use Rattle.multi_report.specs.declared.report.FilesFault.{FilesFault}
 use Rattle.multi_report.specs.Order.{cut_of_files}
 use Rattle.multi_report.specs.Sources.{SourceView, IsKnown, IsPrepared, due, shown_of, next_key, to_come_of}
-use Rattle.multi_report.specs.Pieces.{text_of}
 use Rattle.multi_report.specs.Reports.{IsEnded, lines}
 
 -- what is left of the files, as lines

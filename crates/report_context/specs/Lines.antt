@@ -6,7 +6,7 @@ use Rattle.line_holes.specs.Holes.{LineText, line_text}
 use Rattle.subpage.specs.ItemData.{ItemData}
 use Rattle.report_print.specs.ContextData.{ContextData}
 use Rattle.report_print.specs.Line.{hole, line}
-use Rattle.multi_report.specs.Pieces.{text_of}
+use Rattle.trace_outside.specs.Pieces.{text_of}
 
 -- a report's first line
 abbrev pub cpus_line : ℕ → List ℕ

@@ -9,6 +9,8 @@ use Rattle.trace_outside.specs.declared.counts.Counts.{Counts}
 use Rattle.trace_outside.specs.Causes.{Rose, raised}
 use Rattle.trace_outside.specs.Folders.{Closes, IsFileOf, misses_after}
 use Rattle.trace_outside.specs.Names.{NamedFiles}
+use Rattle.trace_outside.specs.Seen.{FileSeen}
+use Rattle.trace_outside.specs.Open.{AreFilesOf, AreThere, ClosesMany}
 use Rattle.dat_options.specs.declared.fault.OpenFault.{OpenFault}
 use Rattle.dat_header.specs.declared.header.Header.{Header}
 use Rattle.dat_header.specs.Partial.{ReadsPartial, partial_of}
@@ -19,10 +21,8 @@ use Rattle.restore_tool.specs.declared.named.Answer.{Answer}
 use Rattle.restore_tool.specs.declared.named.Answer.TheVariants as code
 use Rattle.restore_tool.specs.declared.named.Source.{Source}
 use Rattle.restore_tool.specs.Answers.{Causes, ClosesAll, Created, KeepsFiles, LeavesOpen, SomeFaulty, answer_of}
-use Rattle.dat_header.specs.Seen.{FileSeen}
 use Rattle.restore_tool.specs.Copying.{AllTold, text_of}
 use Rattle.restore_tool.specs.Meaning.{IsDone, NamesData, Task, missing, refused, made, task_of, texts_of, with_header, with_partial, with_texts}
-use Rattle.restore_tool.specs.Open.{AreFilesOf, AreThere, ClosesMany}
 use Rattle.restore_tool.specs.Restored.{for_processors, restored}
 use Rattle.restore_tool.specs.Restoring.{CreatesOne, Leaves, LeavesUnfinished}
 

@@ -6,10 +6,11 @@ use Rattle.std.proofs.lemmas.List.Elements.{All-nil}
 use Rattle.trace_outside.specs.declared.counts.Counts.{Counts}
 use Rattle.trace_outside.specs.Folders.{Closes}
 use Rattle.trace_outside.specs.Memory.{KeepsFaults}
+use Rattle.trace_outside.specs.Seen.{FileSeen}
+use Rattle.trace_outside.specs.Open.{ClosesMany}
 use Rattle.dat_options.specs.declared.fault.OpenFault.{OpenFault}
 use Rattle.dat_options.specs.declared.fault.OpenFault.TheVariants.{Read, Memory}
 use Rattle.dat_options.specs.Answer.{KeptAt}
-use Rattle.dat_header.specs.Seen.{FileSeen}
 use Rattle.new_files.specs.Requested.{AskedAll, AskedFirst}
 use Rattle.restore_tool.specs.declared.copying.RestoreFault.{RestoreFault}
 use Rattle.restore_tool.specs.declared.copying.RestoreFault.TheVariants as fault_code
@@ -17,7 +18,6 @@ use Rattle.restore_tool.specs.declared.named.Answer.{Answer}
 use Rattle.restore_tool.specs.declared.named.Answer.TheVariants as code
 use Rattle.restore_tool.specs.Answers.{IfNoMemory, answer_of, unread_of}
 use Rattle.restore_tool.specs.Asked.{AsksFor}
-use Rattle.restore_tool.specs.Open.{ClosesMany}
 
 -- NAMES
 

@@ -8,6 +8,8 @@ use Rattle.trace_outside.specs.declared.counts.Counts.{Counts}
 use Rattle.trace_outside.specs.Causes.{Rose}
 use Rattle.trace_outside.specs.Folders.{IsFileOf, misses_after}
 use Rattle.trace_outside.specs.Names.{NamedFiles}
+use Rattle.trace_outside.specs.Seen.{FileSeen}
+use Rattle.trace_outside.specs.Open.{AreFilesOf, AreThere}
 use Rattle.dat_options.specs.declared.fault.OpenFault.{OpenFault}
 use Rattle.dat_options.specs.declared.fault.OpenFault.TheVariants.{Read, Memory}
 use Rattle.restore_tool.specs.declared.copying.RestoreFault.{RestoreFault}
@@ -17,11 +19,9 @@ use Rattle.restore_tool.specs.declared.named.Answer.TheVariants as code
 use Rattle.restore_tool.specs.declared.named.Source.{Source}
 use Rattle.restore_tool.specs.declared.named.Source.TheVariants as source_code
 use Rattle.restore_tool.specs.Answers.{Causes, SomeFaulty, answer_of, unread_of}
-use Rattle.dat_header.specs.Seen.{FileSeen}
 use Rattle.restore_tool.specs.Copying.{IsCaused}
 use Rattle.restore_tool.specs.Failing.{AreThereBefore, IfRead, IsFaulty, IsUnread, IsUnreadBehind, inputs_of, place_of}
 use Rattle.restore_tool.specs.Meaning.{NamesData}
-use Rattle.restore_tool.specs.Open.{AreFilesOf, AreThere}
 use Rattle.restore_tool.proofs.OpenFiles.{there_is}
 
 -- NAMES THAT WERE MISSED

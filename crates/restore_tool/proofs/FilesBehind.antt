@@ -10,9 +10,9 @@ use Rattle.trace_outside.specs.Writing.{Gained}
 use Rattle.trace_outside.proofs.Gains.{gained_both, gained_nothing}
 use Rattle.dat_header.specs.Tables.{in_table}
 use Rattle.trace_outside.specs.Copies.{Copies}
+use Rattle.trace_outside.specs.Seen.{FileSeen}
 use Rattle.new_files.specs.Padding.{up_to_page, zeros}
 use Rattle.restore_tool.specs.Restored.{data_behind, end_behind, parts_behind}
-use Rattle.dat_header.specs.Seen.{FileSeen}
 use Rattle.restore_tool.specs.Copying.{AllTold, IsOneCopied, text_of}
 
 -- ONE FILE MORE

@@ -3,7 +3,7 @@ use Rattle.std.proofs.Common.{◌≡◌, ℕ, ◌+◌, ◌<◌, ◌≤◌, List,
 use Rattle.std.proofs.lemmas.Bool.{cases_eq}
 use Rattle.std.proofs.lemmas.List.{get_or-map, map-set, length-map}
 use Rattle.trace_outside.specs.Causes.{Rose}
-use Rattle.dat_header.specs.Seen.{FileSeen}
+use Rattle.trace_outside.specs.Seen.{FileSeen}
 use Rattle.restore_tool.specs.Copying.{AllKeep, Keeps}
 
 keeps_self : (x : FileSeen) → Keeps x x

@@ -13,12 +13,12 @@ use Rattle.trace_outside.specs.Folders.{IsEmptySink, Stores}
 use Rattle.trace_outside.specs.Names.{NamedFiles, stored}
 use Rattle.trace_outside.specs.Writing.{Gained}
 use Rattle.trace_outside.proofs.Gains.{gained_both}
+use Rattle.trace_outside.specs.Seen.{FileSeen}
 use Rattle.dat_options.specs.Table.{IsPart}
 use Rattle.dat_header.specs.declared.header.Header.{Header}
 use Rattle.dat_header.specs.Allowed.{IsHeader}
 use Rattle.dat_header.specs.Tables.{blank, in_table}
 use Rattle.dat_header.specs.Written.{header_text, written}
-use Rattle.dat_header.specs.Seen.{FileSeen}
 use Rattle.dat_header.proofs.HeaderLaws.{written_spelled}
 use Rattle.dat_header.proofs.Tables.{header_wrapped, same_len}
 use Rattle.new_files.specs.Padding.{IsPage, up_to_page, zeros}

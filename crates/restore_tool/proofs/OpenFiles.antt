@@ -12,8 +12,8 @@ use Rattle.trace_outside.specs.Causes.{Rose, raised}
 use Rattle.std.specs.Option.{IsSome}
 use Rattle.trace_outside.specs.Folders.{Closes, IsFileOf}
 use Rattle.trace_outside.specs.Names.{NamedFiles}
-use Rattle.dat_header.specs.Seen.{FileSeen}
-use Rattle.restore_tool.specs.Open.{AreFilesOf, ClosesMany, IsUnused, OpensMany}
+use Rattle.trace_outside.specs.Seen.{FileSeen}
+use Rattle.trace_outside.specs.Open.{AreFilesOf, ClosesMany, IsUnused, OpensMany}
 
 pub closes_none : (counts : Counts) → ClosesMany [] counts counts
 closes_none counts = record {

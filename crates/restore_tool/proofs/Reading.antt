@@ -10,17 +10,17 @@ use Rattle.std.proofs.lemmas.List.Sums.{sum_by-cons}
 use Rattle.trace_outside.specs.Causes.{raised}
 use Rattle.trace_outside.specs.Folders.{IsFileOf}
 use Rattle.trace_outside.specs.Names.{NamedFiles}
+use Rattle.trace_outside.specs.Seen.{FileSeen}
+use Rattle.trace_outside.specs.Open.{AreFilesOf, IsUnused}
 use Rattle.dat_options.specs.declared.fault.OpenFault.{OpenFault}
 use Rattle.dat_options.specs.declared.fault.OpenFault.TheVariants.{Read, Memory}
 use Rattle.dat_header.specs.declared.header.Header.{Header}
 use Rattle.dat_header.specs.Partial.{ReadsPartial, partial_of}
-use Rattle.dat_header.specs.Seen.{FileSeen}
 use Rattle.restore_tool.specs.declared.named.Answer.{Answer}
 use Rattle.restore_tool.specs.declared.named.Answer.TheVariants as code
 use Rattle.restore_tool.specs.Answers.{IfMade, unread_of}
 use Rattle.restore_tool.specs.Copying.{AllKeep, Keeps}
 use Rattle.restore_tool.specs.Meaning.{NamesData, texts_of}
-use Rattle.restore_tool.specs.Open.{AreFilesOf, IsUnused}
 use Rattle.restore_tool.specs.Reads.{DataWithin, IsReadOnce, ReadsOnce, reads_of}
 
 -- FILES AND THEIR SIZES

@@ -5,6 +5,7 @@ use Rattle.trace_outside.specs.declared.counts.Counts.{Counts}
 use Rattle.trace_outside.specs.Causes.{Rose}
 use Rattle.trace_outside.specs.Folders.{Closes}
 use Rattle.trace_outside.specs.Names.{NamedFiles}
+use Rattle.trace_outside.specs.Open.{AreThere}
 use Rattle.dat_options.specs.declared.fault.OpenFault.{OpenFault}
 use Rattle.dat_options.specs.declared.fault.OpenFault.TheVariants.{Read, Memory}
 use Rattle.dat_options.specs.Answer.{AnswersUnlessFaulty}
@@ -13,7 +14,6 @@ use Rattle.dat_header.specs.Partial.{ReadsPartial, partial_of}
 use Rattle.restore_tool.specs.declared.named.Answer.{Answer}
 use Rattle.restore_tool.specs.Answers.{Causes, ClosesAll, Created, KeepsFiles, unread_of}
 use Rattle.restore_tool.specs.Meaning.{IsDone, NamesData, missing, with_header, with_texts, texts_of}
-use Rattle.restore_tool.specs.Open.{AreThere}
 use Rattle.restore_tool.proofs.Answered.{not_missing}
 
 -- THE HEADER OF THE PARTIAL FILE

@@ -3,6 +3,7 @@ use Rattle.std.specs.Prelude.{Option, Result, Ok, Err, ◌≡◌, ◌≤◌, ◌
 use Rattle.trace_outside.specs.declared.counts.Counts.{Counts}
 use Rattle.trace_outside.specs.Causes.{raised}
 use Rattle.trace_outside.specs.Names.{NamedFiles}
+use Rattle.trace_outside.specs.Seen.{FileSeen}
 use Rattle.dat_options.specs.declared.fault.OpenFault.{OpenFault}
 use Rattle.dat_options.specs.declared.fault.OpenFault.TheVariants.{Read, Memory}
 use Rattle.dat_header.specs.Header.{IsRefusal}
@@ -11,7 +12,6 @@ use Rattle.restore_tool.specs.declared.copying.RestoreFault.TheVariants as fault
 use Rattle.restore_tool.specs.declared.named.Answer.{Answer}
 use Rattle.restore_tool.specs.declared.named.Answer.TheVariants as code
 use Rattle.restore_tool.specs.declared.named.Source.TheVariants as source_code
-use Rattle.dat_header.specs.Seen.{FileSeen}
 
 abbrev pub answer_of : Result Unit RestoreFault → Answer
 answer_of (Ok done) = code.Done

@@ -4,7 +4,7 @@ use Rattle.std.specs.List.{All}
 use Rattle.trace_outside.specs.Causes.{Rose, raised}
 use Rattle.trace_outside.specs.Writing.{Gained}
 use Rattle.trace_outside.specs.declared.outside.File as file
-use Rattle.dat_header.specs.Seen.{FileSeen, file_seen}
+use Rattle.trace_outside.specs.Seen.{FileSeen, file_seen}
 use Rattle.restore_tool.specs.declared.copying.RestoreFault.{RestoreFault}
 use Rattle.restore_tool.specs.declared.copying.RestoreFault.TheVariants as code
 

@@ -3,11 +3,11 @@ use Rattle.std.specs.Prelude.{Option, ◌≡◌, ◌<◌, ◌⊎◌, ℕ, zero, 
 use Rattle.std.specs.FinMap.{get}
 use Rattle.trace_outside.specs.Folders.{misses_after}
 use Rattle.trace_outside.specs.Names.{NamedFiles}
+use Rattle.trace_outside.specs.Seen.{FileSeen}
 use Rattle.restore_tool.specs.declared.named.Answer.{Answer}
 use Rattle.restore_tool.specs.declared.named.Answer.TheVariants as code
 use Rattle.restore_tool.specs.declared.named.Source.{Source}
 use Rattle.restore_tool.specs.declared.named.Source.TheVariants as source_code
-use Rattle.dat_header.specs.Seen.{FileSeen}
 use Rattle.restore_tool.specs.Meaning.{NamesData}
 
 -- the files that are read, in their order, and the place of one of them

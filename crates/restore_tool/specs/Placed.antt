@@ -2,7 +2,7 @@
 use Rattle.std.specs.Prelude.{◌≡◌, ◌%◌, ◌^◌, ℕ, List, length, map}
 use Rattle.trace_base.specs.declared.part.Part.{Part}
 use Rattle.dat_header.specs.Tables.{in_table}
-use Rattle.dat_header.specs.Seen.{FileSeen}
+use Rattle.trace_outside.specs.Seen.{FileSeen}
 use Rattle.restore_tool.specs.Copying.{AllTold, text_of}
 use Rattle.restore_tool.specs.Restored.{parts_behind}
 

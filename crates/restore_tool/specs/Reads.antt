@@ -3,8 +3,8 @@ use Rattle.std.specs.Prelude.{◌≤◌, ◌+◌, ℕ, List, length, sum_by, IfO
 use Rattle.std.specs.FinMap.{get}
 use Rattle.trace_outside.specs.Causes.{raised}
 use Rattle.trace_outside.specs.Names.{NamedFiles}
+use Rattle.trace_outside.specs.Seen.{FileSeen}
 use Rattle.dat_header.specs.Partial.{partial_of}
-use Rattle.dat_header.specs.Seen.{FileSeen}
 use Rattle.restore_tool.specs.Meaning.{NamesData, texts_of}
 
 -- of a file that tells its bytes no more was read than these

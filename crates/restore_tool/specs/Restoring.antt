@@ -4,11 +4,11 @@ use Rattle.std.specs.FinMap.{insert}
 use Rattle.trace_outside.specs.declared.counts.Counts.{Counts}
 use Rattle.trace_outside.specs.Names.{NamedFiles}
 use Rattle.trace_outside.specs.Causes.{raised}
+use Rattle.trace_outside.specs.Seen.{FileSeen}
 use Rattle.dat_header.specs.declared.header.Header.{Header}
 use Rattle.new_files.specs.Stored.{IsUnmade}
 use Rattle.restore_tool.specs.declared.copying.RestoreFault.{RestoreFault}
 use Rattle.restore_tool.specs.declared.copying.RestoreFault.TheVariants as code
-use Rattle.dat_header.specs.Seen.{FileSeen}
 use Rattle.restore_tool.specs.Copying.{AllTold, text_of}
 use Rattle.restore_tool.specs.Restored.{restored}
 

@@ -3,8 +3,8 @@
 ghost use Rattle.std.specs.Prelude.{◌≡◌, ◌≤◌, ◌<◌, ◌%◌, ◌^◌, ℕ, length, map, IsErrOf};
 ghost use Rattle.trace_outside.specs.Causes.{Rose};
 ghost use Rattle.trace_outside.specs.Keeping.{KeepsSink};
+ghost use Rattle.trace_outside.specs.Seen.{file_seen};
 ghost use Rattle.new_files.specs.Padding.{IsPage, zeros};
-ghost use Rattle.dat_header.specs.Seen.{file_seen};
 ghost use Rattle.restore_tool.specs.Copying.{AllKeep, AllTold, CopiesAll, IsCaused, IsOneCopied, Keeps, files_seen, text_of};
 ghost use Rattle.restore_tool.specs.Restored.{data_behind};
 ghost use Rattle.restore_tool.specs.declared.copying.RestoreFault.TheVariants.{Write};

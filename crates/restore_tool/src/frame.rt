@@ -3,9 +3,9 @@
 ghost use Rattle.std.specs.Prelude.{◌≡◌, ◌≤◌, ◌<◌, ◌++◌, ◌∷◌, ◌+◌, ◌-◌, [], ℕ, All, IfSome, List, OnErr, OnOk, length, map, slice_index_or, take, vec_capacity, vec_len};
 ghost use Rattle.trace_outside.specs.Causes.{Rose};
 ghost use Rattle.trace_outside.specs.Folders.{IsFileOf, misses_after};
+ghost use Rattle.trace_outside.specs.Open.{AreFilesOf, ClosesMany, IsUnused, OpensMany};
 ghost use Rattle.new_files.specs.Requested.{AskedAll};
 ghost use Rattle.restore_tool.specs.Copying.{files_seen};
-ghost use Rattle.restore_tool.specs.Open.{AreFilesOf, ClosesMany, IsUnused, OpensMany};
 
 use trace_outside::{Failed, Folder};
 

@@ -7,6 +7,7 @@ use Rattle.trace_outside.specs.Memory.{KeepsFaults}
 use Rattle.trace_outside.specs.Names.{NamedFiles}
 use Rattle.trace_outside.proofs.Gains.{gained_nothing}
 use Rattle.trace_outside.specs.Writing.{Gained, GainedPrefix}
+use Rattle.trace_outside.specs.Pieces.{text_of}
 use Rattle.std.specs.Prelude.{◌⊎◌}
 use Rattle.new_files.specs.Stored.{NewFile, Stored, FilesStored, FirstFilesStored, IsNextOpen, KeepsCounts}
 use Rattle.dat_options.specs.declared.fault.OpenFault.{OpenFault}
@@ -20,7 +21,6 @@ use Rattle.run_endings.specs.Ending.{CountsNoFault, Ended, Ends, Finished, IfNoM
 use Rattle.run_endings.specs.Meaning.{Meaning, Target, on_nothing, on_out, on_folder, only}
 use Rattle.run_endings.specs.Outside.{Outside, SinkSeen, beside}
 use Rattle.run_endings.specs.Ran.{JobRan, MissesNothingElse}
-use Rattle.multi_report.specs.Pieces.{text_of}
 
 -- what holds of anything holds of what is known
 pub if_known : {A : Type 0} (p : A → Type 0) (known : Option A) → ((x : A) → p x) → IfSome known p

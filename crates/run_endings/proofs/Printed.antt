@@ -7,6 +7,7 @@ use Rattle.trace_outside.specs.Causes.{Rose}
 use Rattle.trace_outside.specs.Writing.{Gained, GainedPrefix}
 use Rattle.new_files.specs.Stored.{NewFile, FilesStored}
 use Rattle.trace_outside.proofs.Gains.{gained_nothing}
+use Rattle.trace_outside.specs.Pieces.{text_of}
 use Rattle.item_pass.specs.declared.passing.PassFault.{PassFault}
 use Rattle.item_pass.specs.declared.passing.PassFault.TheVariants as pass
 use Rattle.time_merge.specs.declared.ending.End.{End}
@@ -20,7 +21,6 @@ use Rattle.run_endings.specs.Meaning.{Meaning, on_out, prints}
 use Rattle.run_endings.specs.Outside.{FolderSeen, Outside, SinkSeen, beside}
 use Rattle.run_endings.specs.Output.{Shows, Writes, WritesFor}
 use Rattle.run_endings.specs.Ends.{status_of_end, status_of_pass}
-use Rattle.multi_report.specs.Pieces.{text_of}
 use Rattle.run_endings.proofs.Endings.{known_so, stored_none, stored_first_none, unprinted}
 
 module _ (unread : Type 0) (folder : FolderSeen) (before now : SinkSeen) where

@@ -4,13 +4,13 @@ use Rattle.std.specs.Prelude.{Option, ◌≡◌, ◌⊎◌, ℕ, ◌≤◌, leng
 use Rattle.trace_outside.specs.Causes.{Rose, raised}
 use Rattle.trace_outside.specs.Memory.{KeepsFaults}
 use Rattle.trace_outside.specs.Writing.{Gained, GainedPrefix}
+use Rattle.trace_outside.specs.Pieces.{text_of}
 use Rattle.dat_header.specs.Header.{IsRefusal}
 use Rattle.new_files.specs.Stored.{FilesStored, FirstFilesStored}
 use Rattle.run_endings.specs.declared.status.Status.{Status}
 use Rattle.run_endings.specs.declared.status.Status.TheVariants.{Done, Usage, Refused, ReadFault, WriteFault, NoMemory}
 use Rattle.run_endings.specs.Meaning.{Meaning, Target, on_nothing, on_out, on_folder}
 use Rattle.run_endings.specs.Outside.{FolderSeen, SinkSeen, Outside, beside}
-use Rattle.multi_report.specs.Pieces.{text_of}
 
 -- it did all that it means, and made no file beside
 pub record Finished (m : Meaning) (status : Status) (before now : Outside) : Type 0 where

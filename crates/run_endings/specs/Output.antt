@@ -2,11 +2,11 @@
 use Rattle.std.specs.Prelude.{Option, Result, ◌≡◌, ℕ, List, take, IfSome, OnOk, OnErr, Bool, true}
 use Rattle.trace_outside.specs.Causes.{HasCause, Rose}
 use Rattle.trace_outside.specs.Writing.{Gained, GainedPrefix}
+use Rattle.trace_outside.specs.Pieces.{text_of}
 use Rattle.run_endings.specs.declared.status.Status.{Status}
 use Rattle.run_endings.specs.declared.status.Status.TheVariants.{Done, Usage, Refused, Malformed, ReadFault, WriteFault, NoMemory}
 use Rattle.run_endings.specs.Meaning.{Meaning}
 use Rattle.run_endings.specs.Outside.{SinkSeen}
-use Rattle.multi_report.specs.Pieces.{text_of}
 
 -- a text was written, and after a fault, which the output counted, a prefix of it
 pub record WritesText {T E : Type 0} (text : List ℕ) (before now : SinkSeen) (result : Result T E) : Type 0 where

@@ -5,9 +5,9 @@ use Rattle.std.specs.List.{All}
 use Rattle.std.specs.Option.{option_map}
 use Rattle.trace_outside.specs.Causes.{Rose, raised}
 use Rattle.trace_outside.specs.Names.{NamedFiles}
+use Rattle.trace_outside.specs.Seen.{FileSeen}
+use Rattle.trace_outside.specs.Open.{ClosesMany}
 use Rattle.restore_tool.specs.Answers.{SomeFaulty}
-use Rattle.dat_header.specs.Seen.{FileSeen}
-use Rattle.restore_tool.specs.Open.{ClosesMany}
 use Rattle.trace_args.specs.Command.{ReportData}
 use Rattle.run_endings.specs.declared.status.Status.{Status}
 use Rattle.run_endings.specs.declared.status.Status.TheVariants.{NoMemory}

@@ -19,11 +19,11 @@ use Rattle.multi_report.specs.Reports.{AllReadTheirParts, AreSame, IsFilesReport
 use Rattle.multi_report.specs.declared.source.Source.{Source}
 use Rattle.multi_report.specs.Sources.{HasRoom, SourceView, shown_of}
 use Rattle.trace_outside.specs.declared.outside.File as outside_file
+use Rattle.trace_outside.specs.Seen.{FileSeen}
 use Rattle.subpage.specs.Cut.{Cut, is_before}
 use Rattle.subpage.specs.CutPlaces.{cut_at}
 use Rattle.subpage.specs.declared.cut_place.CutPlace.{CutPlace}
 use Rattle.restore_tool.specs.Answers.{SomeFaulty}
-use Rattle.dat_header.specs.Seen.{FileSeen}
 use Rattle.trace_args.specs.Command.{ReportData}
 use Rattle.run_endings.specs.declared.status.Status.TheVariants.{Malformed, NoMemory}
 use Rattle.run_endings.specs.Ending.{Ends, IfNoMemory}

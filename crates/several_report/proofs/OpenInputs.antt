@@ -12,11 +12,11 @@ use Rattle.trace_outside.specs.Folders.{misses_after}
 use Rattle.trace_outside.specs.Memory.{KeepsFaults}
 use Rattle.trace_outside.specs.Names.{NamedFiles}
 use Rattle.trace_outside.proofs.Gains.{gained_nothing}
+use Rattle.trace_outside.specs.Seen.{FileSeen}
+use Rattle.trace_outside.specs.Open.{ClosesMany}
 use Rattle.dat_options.specs.declared.fault.OpenFault.{OpenFault}
 use Rattle.multi_report.specs.Sources.{IsFreshSource, SourceView, shown_of}
 use Rattle.new_files.specs.Requested.{AskedFirst}
-use Rattle.dat_header.specs.Seen.{FileSeen}
-use Rattle.restore_tool.specs.Open.{ClosesMany}
 use Rattle.restore_tool.proofs.OpenFiles.{opens_more}
 use Rattle.trace_outside.specs.declared.counts.Counts.{Counts}
 use Rattle.trace_args.specs.Command.{ReportData}

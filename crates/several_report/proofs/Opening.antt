@@ -9,6 +9,8 @@ use Rattle.trace_outside.specs.declared.counts.Counts.{Counts}
 use Rattle.trace_outside.specs.Folders.{Closes, IsFileOf, Opens, misses_after}
 use Rattle.trace_outside.specs.Memory.{KeepsFaults}
 use Rattle.trace_outside.specs.Names.{NamedFiles}
+use Rattle.trace_outside.specs.Seen.{FileSeen}
+use Rattle.trace_outside.specs.Open.{OpensMany}
 use Rattle.dat_options.specs.declared.fault.OpenFault.{OpenFault}
 use Rattle.dat_header.specs.declared.header.Header.{Header}
 use Rattle.dat_header.specs.declared.header.Body.{Body}
@@ -21,8 +23,6 @@ use Rattle.subpage.specs.WithBytes.{with_bytes}
 use Rattle.subpage.proofs.EmptyParts.{rise_same, sum_same}
 use Rattle.multi_report.specs.Order as several
 use Rattle.multi_report.specs.Sources.{IsFreshSource, shown_of}
-use Rattle.dat_header.specs.Seen.{FileSeen}
-use Rattle.restore_tool.specs.Open.{OpensMany}
 use Rattle.new_files.specs.Requested.{AskedAll}
 use Rattle.trace_args.specs.Command.{ReportData}
 use Rattle.several_report.specs.declared.sources.Basis.{Basis}

@@ -7,7 +7,7 @@ use Rattle.run_endings.specs.declared.status.Status.{Status}
 use Rattle.run_endings.specs.declared.status.Status.TheVariants.{Refused, Malformed, ReadFault}
 use Rattle.several_report.specs.Inputs.{NamedInput, WrongInput, shown_in, inputs_in, names_in}
 use Rattle.trace_outside.specs.Causes.{Rose}
-use Rattle.dat_header.specs.Seen.{FileSeen}
+use Rattle.trace_outside.specs.Seen.{FileSeen}
 use Rattle.restore_tool.specs.Failing.{IsUnread}
 use Rattle.run_endings.specs.Outside.{FolderSeen}
 

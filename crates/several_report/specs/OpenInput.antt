@@ -3,13 +3,13 @@ use Rattle.std.specs.Prelude.{Option, Ok, Err, ◌≡◌, ◌≤◌, ℕ, List}
 use Rattle.std.specs.List.{All}
 use Rattle.trace_outside.specs.Causes.{Rose, raised}
 use Rattle.trace_outside.specs.declared.outside.File as outside_file
+use Rattle.trace_outside.specs.Seen.{FileSeen}
 use Rattle.dat_header.specs.declared.header.Header.{Header}
 use Rattle.dat_header.specs.Header.{IsRefusal, ReadsHeader}
 use Rattle.subpage.specs.WithBytes.{with_bytes}
 use Rattle.time_merge.specs.LaneRows.{parts_of}
 use Rattle.multi_report.specs.declared.source.Source.{Source}
 use Rattle.multi_report.specs.Sources.{SourceView, seen}
-use Rattle.dat_header.specs.Seen.{FileSeen}
 use Rattle.trace_args.specs.Command.{ReportData}
 use Rattle.report_context.specs.declared.lines.ItemLines.{ItemLines}
 use Rattle.several_report.specs.declared.sources.Basis.{Basis}

@@ -6,12 +6,12 @@ use Rattle.trace_outside.specs.Causes.{Rose, raised}
 use Rattle.trace_outside.specs.Folders.{misses_after}
 use Rattle.trace_outside.specs.Memory.{KeepsFaults}
 use Rattle.trace_outside.specs.Names.{NamedFiles}
+use Rattle.trace_outside.specs.Open.{OpensMany}
 use Rattle.dat_header.specs.Header.{IsRefusal}
 use Rattle.subpage.specs.WithBytes.{with_bytes}
 use Rattle.time_merge.specs.LaneRows.{parts_of}
 use Rattle.multi_report.specs.Order.{ShownFile}
 use Rattle.multi_report.specs.Sources.{SourceView, shown_of, IsFreshSource}
-use Rattle.restore_tool.specs.Open.{OpensMany}
 use Rattle.new_files.specs.Requested.{AskedAll}
 use Rattle.trace_args.specs.Command.{ReportData}
 use Rattle.run_endings.specs.declared.status.Status.{Status}

@@ -3,13 +3,13 @@ use Rattle.std.specs.Prelude.{Option, Some, None, Result, Ok, Err, ◌≡◌, �
 use Rattle.std.specs.List.{All}
 use Rattle.std.specs.Option.{option_map}
 use Rattle.trace_outside.specs.Causes.{Rose}
+use Rattle.trace_outside.specs.Seen.{FileSeen}
 use Rattle.multi_report.specs.declared.report.FilesEnd.{FilesEnd}
 use Rattle.multi_report.specs.declared.report.FilesEnd.TheVariants as end
 use Rattle.multi_report.specs.declared.report.FilesFault.{FilesFault}
 use Rattle.multi_report.specs.declared.report.FilesFault.TheVariants as fault
 use Rattle.multi_report.specs.Sources.{SourceView}
 use Rattle.restore_tool.specs.Answers.{SomeFaulty}
-use Rattle.dat_header.specs.Seen.{FileSeen}
 use Rattle.new_files.specs.Requested.{AskedFirst}
 use Rattle.trace_args.specs.Command.{ReportData}
 use Rattle.run_endings.specs.declared.job_end.JobEnd.{JobEnd}

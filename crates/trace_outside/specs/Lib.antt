@@ -10,3 +10,5 @@ pub mod Faults
 pub mod Memory
 pub mod Keeping
 pub mod Seen
+pub mod Open
+pub mod Pieces

@@ -6,6 +6,7 @@ use Rattle.trace_base.specs.declared.layout.Layout.{Layout}
 use Rattle.trace_base.specs.declared.part.Part.{Part}
 use Rattle.trace_outside.specs.Folders.{no_counts}
 use Rattle.trace_outside.specs.Writing.{Gained}
+use Rattle.trace_outside.specs.Pieces.{text_of}
 use Rattle.subpage.specs.ItemData.{ItemData}
 use Rattle.subpage.specs.Processor.{list_of, bad_of}
 use Rattle.subpage.specs.Arrangement.{Keyed, arranged}
@@ -26,7 +27,6 @@ use Rattle.run_endings.specs.Outside.{FolderSeen, SinkSeen, beside}
 use Rattle.file_report.specs.Report.{report_pieces}
 use Rattle.run_endings.specs.Selection.{Every, chosen, has}
 use Rattle.trace_run.specs.Selftest.{plain_report, generated_items, generated_report}
-use Rattle.multi_report.specs.Pieces.{text_of}
 use Rattle.run_endings.proofs.Endings.{known_so}
 use Rattle.trace_run.proofs.Filters.{filter-all, filter-same}
 

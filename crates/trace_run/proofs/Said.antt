@@ -3,13 +3,13 @@ use Rattle.std.proofs.Common.{◌≡◌, ℕ, List, [], ◌∷◌, ◌++◌, app
 use Rattle.trace_outside.specs.Causes.{HasCause}
 use Rattle.trace_outside.specs.Writing.{Gained, GainedPrefix}
 use Rattle.trace_outside.proofs.Gains.{prefix_whole}
+use Rattle.trace_outside.specs.Pieces.{text_of}
 use Rattle.run_words.specs.declared.usage.UsageFault.{UsageFault}
 use Rattle.run_words.specs.Job.{Job, OnFile, OnFiles, SelfTest, Restore, About}
 use Rattle.run_endings.specs.declared.status.Status.TheVariants.{Usage, NoMemory}
 use Rattle.run_endings.specs.declared.status.Status.{Status}
 use Rattle.std.proofs.lemmas.List.{append-nil}
 use Rattle.std.specs.Prelude.{codes}
-use Rattle.multi_report.specs.Pieces.{text_of}
 use Rattle.trace_run.specs.Meaning.{input_of}
 use Rattle.several_report.proofs.InputNames.{first_of, named_any}
 use Rattle.trace_run.specs.Messages.{IsLineRead, Says, message, usage_line}

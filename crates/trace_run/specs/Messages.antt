@@ -5,10 +5,10 @@ use Rattle.dat_options.specs.declared.fault.OpenFault.{OpenFault}
 use Rattle.dat_options.specs.declared.fault.OpenFault.TheVariants.{NotTrace, Compressed, OtherVersion, BadEndian, BadLong, BadPageSize, BadHeaderPage, BadSection, Truncated, TooManyCpus, Read, Memory}
 use Rattle.trace_outside.specs.Causes.{Rose}
 use Rattle.trace_outside.specs.Writing.{Gained, GainedPrefix}
+use Rattle.trace_outside.specs.Pieces.{text_of}
 use Rattle.subpage.specs.declared.cut_place.CutPlace.{CutPlace}
 use Rattle.run_endings.specs.declared.status.Status.{Status}
 use Rattle.run_endings.specs.declared.status.Status.TheVariants.{Done, Usage, Refused, Malformed, ReadFault, WriteFault, NoMemory}
-use Rattle.multi_report.specs.Pieces.{text_of}
 use Rattle.run_words.specs.declared.usage.UsageFault.{UsageFault}
 use Rattle.run_words.specs.declared.usage.UsageFault.TheVariants.{Word, Filter}
 use Rattle.trace_args.specs.KindText.{kind_text}

@@ -10,7 +10,7 @@ use Rattle.trace_gen.specs.GeneratedHeader.{header_but_parts}
 use Rattle.trace_gen.specs.Summary.{summary_line}
 use Rattle.report_context.specs.Context.{context_of}
 use Rattle.file_report.specs.Report.{report_pieces}
-use Rattle.multi_report.specs.Pieces.{text_of}
+use Rattle.trace_outside.specs.Pieces.{text_of}
 
 -- the words of a report without options
 abbrev pub plain_report : ReportData

@@ -1,6 +1,6 @@
 ghost use Rattle.std.specs.Prelude.{◌≡◌, ◌≤◌, [], ◌∷◌, codes, length};
 ghost use Rattle.std.specs.List.{flat_map};
-ghost use Rattle.multi_report.specs.Pieces.{text_of};
+ghost use Rattle.trace_outside.specs.Pieces.{text_of};
 ghost use Rattle.trace_run.specs.Messages as spec;
 ghost use Rattle.trace_run.specs.Messages.{message, usage_line, fault_text, fault_place, Says};
 ghost use Rattle.run_endings.specs.Outside.{sink_seen};

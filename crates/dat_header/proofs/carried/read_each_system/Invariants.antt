@@ -2,7 +2,7 @@ use Rattle.std.proofs.Common.{◌≡◌, ◌≤◌, ◌-◌, length}
 use Rattle.std.specs.List.{All}
 use Rattle.dat_header.specs.Allowed.{IsSystem}
 use Rattle.dat_header.specs.ItemsAt.{each_system_at, system_at}
-use Rattle.dat_header.specs.Seen.{file_seen}
+use Rattle.trace_outside.specs.Seen.{file_seen}
 use Rattle.dat_header.proofs.Rows.{GoesOn, row_from}
 use Rattle.dat_header.proofs.carried.read_each_system.Given as goal
 

@@ -1,7 +1,7 @@
 use Rattle.std.proofs.Common.{◌≡◌, ◌≤◌, ◌-◌, ◌<◌, ◌^◌, length}
 use Rattle.std.specs.List.{All}
 use Rattle.dat_header.specs.ItemsAt.{texts_at, text_at}
-use Rattle.dat_header.specs.Seen.{file_seen}
+use Rattle.trace_outside.specs.Seen.{file_seen}
 use Rattle.dat_header.proofs.Rows.{GoesOn, row_from}
 use Rattle.dat_header.proofs.carried.read_texts.Given as goal
 

@@ -1,7 +1,7 @@
 use Rattle.std.proofs.Common.{◌≡◌, ◌≤◌, ◌-◌}
 use Rattle.dat_header.specs.Allowed.{IsSystemName}
 use Rattle.dat_header.specs.ItemsAt.{name_at}
-use Rattle.dat_header.specs.Seen.{file_seen}
+use Rattle.trace_outside.specs.Seen.{file_seen}
 use Rattle.dat_header.proofs.Rows.{GoesOn, name_from}
 use Rattle.dat_header.proofs.items.read_name.Given as goal
 

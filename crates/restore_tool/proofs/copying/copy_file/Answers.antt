@@ -1,5 +1,5 @@
 use Rattle.std.proofs.Common.{arith}
-use Rattle.dat_header.specs.Seen.{file_seen}
+use Rattle.trace_outside.specs.Seen.{file_seen}
 use Rattle.restore_tool.proofs.FilesBehind.{one_copied}
 use Rattle.restore_tool.proofs.copying.copy_file.Goals as goal
 

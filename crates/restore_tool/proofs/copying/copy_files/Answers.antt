@@ -1,6 +1,6 @@
 use Rattle.std.proofs.Common.{rules, refl, arith, ◌≡◌, ◌<◌, ◌≤◌, ◌∙◌, ◌+◌, ◌%◌, ◌^◌, ℕ, ap, length, get_or, get_or-set_same, map}
 use Rattle.std.proofs.lemmas.List.{length-map}
-use Rattle.dat_header.specs.Seen.{file_seen}
+use Rattle.trace_outside.specs.Seen.{file_seen}
 use Rattle.restore_tool.proofs.FilesBehind.{copied_all, copied_more, copied_none}
 use Rattle.restore_tool.proofs.FilesKept.{all_unread, keep_none, keep_set, rose_at, unread_here, unread_set}
 use Rattle.restore_tool.proofs.copying.copy_files.Goals as goal

@@ -1,5 +1,5 @@
 use Rattle.std.proofs.Common.{◌≡◌, ◌≤◌, map}
-use Rattle.dat_header.specs.Seen.{file_seen}
+use Rattle.trace_outside.specs.Seen.{file_seen}
 use Rattle.restore_tool.specs.Copying.{AllKeep}
 use Rattle.restore_tool.proofs.FilesBehind.{CopiedTo}
 use Rattle.restore_tool.proofs.FilesKept.{AreUnread}

@@ -1,6 +1,6 @@
 use Rattle.std.proofs.Common.{◌≡◌, ◌++◌, List, map, length}
-use Rattle.dat_header.specs.Seen.{file_seen}
-use Rattle.restore_tool.specs.Open.{ClosesMany}
+use Rattle.trace_outside.specs.Seen.{file_seen}
+use Rattle.trace_outside.specs.Open.{ClosesMany}
 use Rattle.restore_tool.proofs.frame.close_files.Given as goal
 
 abbrev pub invariant-loop-file : goal.invariant-loop-file

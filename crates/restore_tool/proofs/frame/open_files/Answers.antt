@@ -1,6 +1,6 @@
 use Rattle.std.proofs.Common.{rules, ◌≡◌, ◌+◌, ◌<◌, ◌≤◌, ℕ, [], ◌∷◌, length, map, take, sym, subst, ap, ◌∙◌, arith}
 use Rattle.std.proofs.lemmas.List.{length-append, length-map}
-use Rattle.dat_header.specs.Seen.{file_seen}
+use Rattle.trace_outside.specs.Seen.{file_seen}
 use Rattle.new_files.specs.Requested.{AskedAll}
 use Rattle.restore_tool.proofs.Asking.{asked_next, asked_over, take_mapped}
 use Rattle.restore_tool.proofs.Failures.{missed_at, on_err, unmissed_more}

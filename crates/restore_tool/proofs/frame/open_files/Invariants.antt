@@ -1,7 +1,7 @@
 use Rattle.std.proofs.Common.{◌≡◌, map, length, take, vec_capacity}
 use Rattle.std.specs.List.{All}
-use Rattle.dat_header.specs.Seen.{file_seen}
-use Rattle.restore_tool.specs.Open.{AreFilesOf, IsUnused, OpensMany}
+use Rattle.trace_outside.specs.Seen.{file_seen}
+use Rattle.trace_outside.specs.Open.{AreFilesOf, IsUnused, OpensMany}
 use Rattle.new_files.specs.Requested.{AskedAll}
 use Rattle.std.specs.Option.{IfSome}
 use Rattle.restore_tool.proofs.frame.open_files.Given as goal

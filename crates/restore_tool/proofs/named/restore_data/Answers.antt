@@ -4,13 +4,13 @@ use Rattle.std.specs.List.{All}
 use Rattle.std.proofs.lemmas.List.{length-map, take_at}
 use Rattle.trace_outside.specs.Causes.{Rose}
 use Rattle.trace_outside.specs.Names.{NamedFiles}
+use Rattle.trace_outside.specs.Seen.{file_seen}
+use Rattle.trace_outside.specs.Open.{AreFilesOf, AreThere, IsUnused}
 use Rattle.restore_tool.specs.declared.named.Source.TheVariants.{Partial}
 use Rattle.restore_tool.specs.Answers.{Causes}
 use Rattle.restore_tool.specs.Asked.{asked_behind}
-use Rattle.dat_header.specs.Seen.{file_seen}
 use Rattle.restore_tool.specs.Failing.{IfRead, IsFaulty}
 use Rattle.restore_tool.specs.Meaning.{names_view, texts_of, with_texts}
-use Rattle.restore_tool.specs.Open.{AreFilesOf, AreThere, IsUnused}
 use Rattle.restore_tool.specs.Reads.{DataWithin, reads_of}
 use Rattle.restore_tool.proofs.Answered.{created_by, data_done, kept_by, unheld_done, unread_done}
 use Rattle.restore_tool.proofs.Failures.{any_missed, data_faulty, data_unread, misses_since, missed_there, unopened_unread}

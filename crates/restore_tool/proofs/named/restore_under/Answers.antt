@@ -3,11 +3,11 @@ use Rattle.std.proofs.lemmas.List.{length-map}
 use Rattle.trace_outside.specs.Causes.{Rose}
 use Rattle.trace_outside.specs.Memory.{KeepsFaults}
 use Rattle.trace_outside.specs.Names.{NamedFiles}
-use Rattle.dat_header.specs.Seen.{file_seen}
+use Rattle.trace_outside.specs.Seen.{file_seen}
+use Rattle.trace_outside.specs.Open.{AreThere}
 use Rattle.restore_tool.specs.Asked.{asked_behind}
 use Rattle.restore_tool.specs.Failing.{IfRead, IsUnreadBehind}
 use Rattle.restore_tool.specs.Meaning.{names_view, texts_of, with_texts}
-use Rattle.restore_tool.specs.Open.{AreThere}
 use Rattle.restore_tool.proofs.Answered.{all_closed, all_closed_counts, closed_rose, created_then, kept_around, unheld_done}
 use Rattle.restore_tool.proofs.Asking.{asked_none, asks_then, closed_faults, memory_map, no_faults}
 use Rattle.restore_tool.proofs.Failures.{causes_faulty}

@@ -1,7 +1,7 @@
 use Rattle.std.proofs.Common.{rules, arith, ◌≡◌, ◌<◌, ◌≤◌, ◌∙◌, ◌+◌, ◌%◌, ◌^◌, ℕ, ap, sym, subst, IfSome, length, get_or, map}
 use Rattle.std.proofs.lemmas.List.{get_or-map, length-map, take_more_set}
 use Rattle.trace_base.specs.declared.part.Part.{Part}
-use Rattle.dat_header.specs.Seen.{file_seen}
+use Rattle.trace_outside.specs.Seen.{file_seen}
 use Rattle.restore_tool.proofs.FilesBehind.{placed_all, placed_more, placed_none}
 use Rattle.restore_tool.proofs.placing.place_files.Goals as goal
 

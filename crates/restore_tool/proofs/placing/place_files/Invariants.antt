@@ -1,5 +1,5 @@
 use Rattle.std.proofs.Common.{map}
-use Rattle.dat_header.specs.Seen.{file_seen}
+use Rattle.trace_outside.specs.Seen.{file_seen}
 use Rattle.restore_tool.proofs.FilesBehind.{PlacedTo}
 use Rattle.restore_tool.proofs.placing.place_files.Given as goal
 

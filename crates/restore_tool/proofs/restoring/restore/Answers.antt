@@ -1,7 +1,7 @@
 use Rattle.std.proofs.Common.{◌≡◌, ◌∙◌, inl, length, map, arith}
 use Rattle.std.proofs.lemmas.Result.{err_from_is_err_and}
 use Rattle.dat_header.specs.Tables.{in_table}
-use Rattle.dat_header.specs.Seen.{file_seen}
+use Rattle.trace_outside.specs.Seen.{file_seen}
 use Rattle.restore_tool.specs.Copying.{text_of}
 use Rattle.restore_tool.specs.Restored.{header_end, table_of}
 use Rattle.new_files.proofs.Unmade.{unmade_finish}

@@ -1,7 +1,7 @@
 use Rattle.std.proofs.Common.{length, map}
 use Rattle.std.proofs.lemmas.Result.{err_from_is_err_and}
 use Rattle.dat_header.specs.Written.{header_text}
-use Rattle.dat_header.specs.Seen.{file_seen}
+use Rattle.trace_outside.specs.Seen.{file_seen}
 use Rattle.restore_tool.specs.Copying.{text_of}
 use Rattle.restore_tool.specs.Restored.{data_behind}
 use Rattle.restore_tool.proofs.FilesKept.{keep_none}

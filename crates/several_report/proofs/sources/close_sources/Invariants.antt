@@ -1,6 +1,6 @@
 use Rattle.std.proofs.Common.{◌≡◌, ◌++◌, List, map, length}
 use Rattle.multi_report.specs.declared.source.Source.{Source}
-use Rattle.restore_tool.specs.Open.{ClosesMany}
+use Rattle.trace_outside.specs.Open.{ClosesMany}
 use Rattle.report_context.specs.declared.lines.ItemLines.{ItemLines}
 use Rattle.several_report.specs.OpenInput.{file_in, source_seen}
 use Rattle.several_report.proofs.sources.close_sources.Given as goal

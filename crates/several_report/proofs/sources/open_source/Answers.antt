@@ -1,6 +1,6 @@
 use Rattle.std.proofs.Common.{subst, sym, ◌∙◌}
 use Rattle.multi_report.specs.Sources.{SourceView}
-use Rattle.dat_header.specs.Seen.{file_seen}
+use Rattle.trace_outside.specs.Seen.{file_seen}
 use Rattle.trace_args.specs.Command.{report_view}
 use Rattle.run_endings.specs.Outside.{folder_seen}
 use Rattle.several_report.specs.Opened.{IsOpened}

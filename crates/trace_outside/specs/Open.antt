@@ -6,7 +6,7 @@ use Rattle.trace_outside.specs.declared.counts.Counts.{Counts}
 use Rattle.trace_outside.specs.Names.{NamedFiles}
 use Rattle.trace_outside.specs.Causes.{Rose, raised}
 use Rattle.trace_outside.specs.Folders.{IsFileOf}
-use Rattle.dat_header.specs.Seen.{FileSeen}
+use Rattle.trace_outside.specs.Seen.{FileSeen}
 
 -- just opened
 pub record IsUnused (file : FileSeen) : Type 0 where
