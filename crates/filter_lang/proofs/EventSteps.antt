@@ -3,12 +3,13 @@ use Rattle.std.proofs.Common.{◌≡◌, ◌≢◌, ℕ, zero, suc, ◌<◌, fal
 use Rattle.filter_lang.specs.PlainToken.{PlainToken, mark, exclamation, tilde, opening, closing, name, comma, slash, colon, digits, quoted, identifier}
 use Rattle.filter_lang.specs.Tree.{Tree}
 use Rattle.filter_lang.specs.TokenView.{plain_tokens}
-use Rattle.filter_lang.specs.Ops.{first_name, has_comma, has_slash, has_colon}
+use Rattle.filter_lang.specs.Ops.{first_name, has}
 use Rattle.filter_lang.specs.Filter.{EventNameData, named, filter}
 use Rattle.filter_lang.specs.ConditionReading.{found, refused, cond_at}
 use Rattle.filter_lang.specs.FilterReading.{naming, first, slashed, both, names, whole, behind_events, filter_in}
 use Rattle.filter_lang.specs.FilterView.{closing_with}
 use Rattle.filter_lang.specs.Grammar.{deepest}
+use Rattle.filter_lang.specs.declared.token.Separator.TheVariants.{Comma, Slash, Colon}
 use Rattle.filter_lang.specs.declared.token.Token.{Token}
 use Rattle.filter_lang.proofs.Filters.{stuck, goes, at_end, with_none, a_name}
 
@@ -42,7 +43,7 @@ slashed_stops a (identifier x ∷ ts) e = stuck (slashed a) (identifier x) ts re
 slashed_stops a (opening ∷ ts) e = stuck (slashed a) opening ts refl
 slashed_stops a (closing ∷ ts) e = stuck (slashed a) closing ts refl
 
-first_ends : (a : List ℕ) (ts : List PlainToken) → has_slash ts ≡ false → names ts (first a) ≡ closing_with (named a None ∷ []) ts
+first_ends : (a : List ℕ) (ts : List PlainToken) → has Slash ts ≡ false → names ts (first a) ≡ closing_with (named a None ∷ []) ts
 first_ends a [] e = at_end (first a)
 first_ends a (mark op ∷ ts) e = stuck (first a) (mark op) ts refl
 first_ends a (exclamation ∷ ts) e = stuck (first a) exclamation ts refl
@@ -75,7 +76,7 @@ both_end a b (closing ∷ ts) = stuck (both a b) closing ts refl
 pub no_name : (ts : List PlainToken) → first_name ts ≡ None → names ts naming ≡ refused ts
 no_name ts e = naming_stops ts e
 
-pub one_name_alone : (ts us : List PlainToken) (a : List ℕ) → ts ≡ name a ∷ us → has_slash us ≡ false → names ts naming ≡ closing_with (named a None ∷ []) us
+pub one_name_alone : (ts us : List PlainToken) (a : List ℕ) → ts ≡ name a ∷ us → has Slash us ≡ false → names ts naming ≡ closing_with (named a None ∷ []) us
 one_name_alone ts us a is never = ap (λ zs. names zs naming) is ∙ a_name a us ∙ first_ends a us never
 
 behind_slash : (ts us vs : List PlainToken) (a : List ℕ) → ts ≡ name a ∷ us → us ≡ slash ∷ vs → names ts naming ≡ names vs (slashed a)
@@ -90,7 +91,7 @@ two_names_there ts us vs ws a b is mark' there =
     behind_slash ts us vs a is mark' ∙ ap (λ zs. names zs (slashed a)) there ∙ goes (slashed a) (name b) ws [] (both a b) refl ∙ sym (with_none (names ws (both a b))) ∙ both_end a b ws
 
 -- further events
-pub over_here : (es : List EventNameData) (ts : List PlainToken) → has_comma ts ≡ false → closing_with es ts ≡ found es ts
+pub over_here : (es : List EventNameData) (ts : List PlainToken) → has Comma ts ≡ false → closing_with es ts ≡ found es ts
 over_here es [] e = refl
 over_here es (mark op ∷ ts) e = refl
 over_here es (exclamation ∷ ts) e = refl
@@ -120,7 +121,7 @@ with_them ts us es e = rw e refl
 pub events_only : (ts us : List PlainToken) (es : List EventNameData) → names ts naming ≡ found es us → us ≡ [] → filter_in ts ≡ found (filter es None) []
 events_only ts us es e none = with_them ts us es e ∙ ap (behind_events es) none
 
-no_colon : (es : List EventNameData) (us : List PlainToken) → us ≢ [] → has_colon us ≡ false → behind_events es us ≡ refused us
+no_colon : (es : List EventNameData) (us : List PlainToken) → us ≢ [] → has Colon us ≡ false → behind_events es us ≡ refused us
 no_colon es [] some e = absurd (some refl)
 no_colon es (mark op ∷ ts) some e = refl
 no_colon es (exclamation ∷ ts) some e = refl
@@ -135,7 +136,7 @@ no_colon es (identifier x ∷ ts) some e = refl
 no_colon es (opening ∷ ts) some e = refl
 no_colon es (closing ∷ ts) some e = refl
 
-pub other_behind : (ts us : List PlainToken) (es : List EventNameData) → names ts naming ≡ found es us → us ≢ [] → has_colon us ≡ false → filter_in ts ≡ refused us
+pub other_behind : (ts us : List PlainToken) (es : List EventNameData) → names ts naming ≡ found es us → us ≢ [] → has Colon us ≡ false → filter_in ts ≡ refused us
 other_behind ts us es e some never = with_them ts us es e ∙ no_colon es us some never
 
 pub cond_stops : (ts us vs rs : List PlainToken) (es : List EventNameData) → names ts naming ≡ found es us → us ≡ colon ∷ vs → cond_at deepest vs ≡ refused rs → filter_in ts ≡ refused rs

@@ -6,8 +6,9 @@ use Rattle.filter_lang.specs.Ops.{prefix_in}
 use Rattle.filter_lang.specs.TokenView.{plain_token}
 use Rattle.filter_lang.specs.ConditionReading.{Parsed, found, refused, Read, level_by, row_behind, unary_by, unary_from, unary_at, level_at, bracket_in, under}
 use Rattle.filter_lang.specs.declared.expr.FilterPrefix.{FilterPrefix}
+use Rattle.filter_lang.specs.declared.token.Separator.TheVariants.{Comma, Slash, Colon}
 use Rattle.filter_lang.specs.declared.token.Word.{Word}
-use Rattle.filter_lang.specs.declared.token.Word.TheVariants.{Name, Comma, Slash, Colon, Number, Text, Field, Op, Not, Invert, Open, Close}
+use Rattle.filter_lang.specs.declared.token.Word.TheVariants.{Name, Separator, Number, Text, Field, Op, Not, Invert, Open, Close}
 use Rattle.filter_lang.proofs.Levels.{no_room, no_prefix, prefix_there}
 
 pub level_zero : (n l : ℕ) (ts : List PlainToken) → l ≡ 0 → level_at n l ts ≡ unary_at n ts
@@ -77,9 +78,9 @@ unary_no_room n ts us t op e z is = unary_closed n ts us t e z ∙ no_room t op 
 pub unary_other : (n : ℕ) (ts us : List PlainToken) (w : Word) → ts ≡ plain_token w ∷ us → prefix_in (plain_token w) ≡ None
     → ((value : ℕ) → w ≡ Number value → ⊥) → ((bytes : _) → w ≡ Text bytes → ⊥) → ((bytes : _) → w ≡ Field bytes → ⊥) → (w ≡ Open → ⊥) → unary_at n ts ≡ refused ts
 unary_other n ts us (Name bytes) e none v t f o = unlike n ts us (name bytes.now) (λ inner. refl) e
-unary_other n ts us Comma e none v t f o = unlike n ts us comma (λ inner. refl) e
-unary_other n ts us Slash e none v t f o = unlike n ts us slash (λ inner. refl) e
-unary_other n ts us Colon e none v t f o = unlike n ts us colon (λ inner. refl) e
+unary_other n ts us (Separator Comma) e none v t f o = unlike n ts us comma (λ inner. refl) e
+unary_other n ts us (Separator Slash) e none v t f o = unlike n ts us slash (λ inner. refl) e
+unary_other n ts us (Separator Colon) e none v t f o = unlike n ts us colon (λ inner. refl) e
 unary_other n ts us (Number value) e none v t f o = absurd (v value refl)
 unary_other n ts us (Text bytes) e none v t f o = absurd (t bytes refl)
 unary_other n ts us (Field bytes) e none v t f o = absurd (f bytes refl)

@@ -6,6 +6,8 @@ use Rattle.c_operators.specs.declared.binary.BinaryOp.TheVariants as binary
 use Rattle.filter_lang.specs.PlainToken.{PlainToken, name, comma, slash, colon, mark, exclamation, tilde}
 use Rattle.filter_lang.specs.declared.expr.FilterPrefix.{FilterPrefix}
 use Rattle.filter_lang.specs.declared.expr.FilterPrefix.TheVariants.{Not, Minus, Invert}
+use Rattle.filter_lang.specs.declared.token.Separator.{Separator}
+use Rattle.filter_lang.specs.declared.token.Separator.TheVariants.{Comma, Slash, Colon}
 
 abbrev pub if_level : ℕ → BinaryOp → List PlainToken → Option (BinaryOp × List PlainToken)
 if_level level op ts = if level_of op == level then Some (op, ts) else None
@@ -26,19 +28,13 @@ prefix_in exclamation = Some Not
 prefix_in tilde = Some Invert
 prefix_in t = None
 
--- the name that stands first, or whether a mark of the list of events does
+-- the name that stands first, or whether a separator does
 abbrev pub first_name : List PlainToken → Option (List ℕ)
 first_name (name a ∷ ts) = Some a
 first_name ts = None
 
-abbrev pub has_comma : List PlainToken → Bool
-has_comma (comma ∷ ts) = true
-has_comma ts = false
-
-abbrev pub has_slash : List PlainToken → Bool
-has_slash (slash ∷ ts) = true
-has_slash ts = false
-
-abbrev pub has_colon : List PlainToken → Bool
-has_colon (colon ∷ ts) = true
-has_colon ts = false
+abbrev pub has : Separator → List PlainToken → Bool
+has Comma (comma ∷ ts) = true
+has Slash (slash ∷ ts) = true
+has Colon (colon ∷ ts) = true
+has separator ts = false

@@ -10,6 +10,7 @@ use crate::filter::{EventName, Filter};
 use crate::parse_fault::ParseFault;
 use crate::reader::Reader;
 use crate::taken::{TakenEvent, TakenEvents};
+use crate::token::Separator;
 use trace_base::{ByteText, ListOf};
 
 /// How many brackets and prefix operators may be open.
@@ -25,7 +26,7 @@ impl<'a> Reader<'a> {
     {
         let first = self.name(at).ok_or(ParseFault::Before(at))?;
         let first = ByteText::copy(self.alloc, first)?;
-        if !self.is_slash(at + 1) {
+        if !self.is_at(Separator::Slash, at + 1) {
             let event = EventName {
                 first,
                 second: None,
@@ -54,7 +55,7 @@ impl<'a> Reader<'a> {
         let first = self.event(0)?;
         let mut next = first.next;
         events.push(first.event)?;
-        while self.is_comma(next) {
+        while self.is_at(Separator::Comma, next) {
             let event = self.event(next + 1)?;
             next = event.next;
             events.push(event.event)?;
@@ -74,7 +75,7 @@ impl<'a> Reader<'a> {
                 cond: None,
             });
         }
-        if !self.is_colon(events.next) {
+        if !self.is_at(Separator::Colon, events.next) {
             return Err(ParseFault::Before(events.next));
         }
         let cond = self.level(10, DEEPEST, events.next + 1)?;

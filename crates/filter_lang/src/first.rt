@@ -8,7 +8,7 @@ ghost use Rattle.filter_lang.specs.PlainToken.{name, identifier};
 ghost use Rattle.filter_lang.specs.TokenView.{plain_token, cut_of};
 
 use crate::number::number;
-use crate::token::Word;
+use crate::token::{Separator, Word};
 use byte_classes::{is_blank, is_word};
 use c_operators::BinaryOp;
 use fmt_lexer::word_len;
@@ -44,7 +44,7 @@ fn other_mark(mark: &[u8]) -> Option<Word<'static>>
         b"~" => Word::Invert,
         b"(" => Word::Open,
         b")" => Word::Close,
-        b":" => Word::Colon,
+        b":" => Word::Separator(Separator::Colon),
         _ => return None,
     };
     Some(word)
@@ -124,9 +124,9 @@ fn before_colon<'a>(bytes: &'a [u8], first: u8, rest: &[u8]) -> (Word<'a>, usize
     ensures within { result.1 ≤ length rest.now }
 {
     match first {
-        b',' => (Word::Comma, 0),
-        b'/' => (Word::Slash, 0),
-        b':' => (Word::Colon, 0),
+        b',' => (Word::Separator(Separator::Comma), 0),
+        b'/' => (Word::Separator(Separator::Slash), 0),
+        b':' => (Word::Separator(Separator::Colon), 0),
         _ => {
             let len = name_len(rest);
             (Word::Name(&bytes[..len + 1]), len)
@@ -172,5 +172,5 @@ pub fn first_token(bytes: &[u8], colon_before: bool) -> Option<(Word<'_>, usize)
 pub fn is_past_colon(colon_before: bool, word: Word<'_>) -> bool
     ensures { result ≡ (colon_before || is_colon (plain_token word.entry)) }
 {
-    colon_before || matches!(word, Word::Colon)
+    colon_before || matches!(word, Word::Separator(Separator::Colon))
 }

@@ -1,12 +1,12 @@
 //! What a condition is read from.
 
 ghost use Rattle.std.specs.Prelude.{◌≡◌, ◌<◌, ◌+◌, [], ◌∷◌, length, option_map, IfSome, IfNone, IsTrue};
-ghost use Rattle.filter_lang.specs.Ops.{op_first, first_name, has_comma, has_slash, has_colon};
-ghost use Rattle.filter_lang.specs.PlainToken.{name, comma, slash, colon};
-ghost use Rattle.filter_lang.specs.TokenView.{plain_token};
+ghost use Rattle.filter_lang.specs.Ops.{op_first, first_name, has};
+ghost use Rattle.filter_lang.specs.PlainToken.{name};
+ghost use Rattle.filter_lang.specs.TokenView.{plain_token, separator_token};
 ghost use Rattle.filter_lang.specs.ReaderView.{from, op_view};
 
-use crate::token::{Token, Word};
+use crate::token::{Separator, Token, Word};
 use c_operators::BinaryOp;
 use std::alloc::Global;
 
@@ -54,35 +54,14 @@ impl<'a> Reader<'a> {
         }
     }
 
-    pub fn is_comma(&self, at: usize) -> bool
-        ensures value { result ≡ has_comma (from self.now at) }
-        ensures there { IsTrue result → from self.now at ≡ comma ∷ from self.now (at + 1) }
+    /// Whether a separator stands at a place.
+    pub fn is_at(&self, separator: Separator, at: usize) -> bool
+        ensures value { result ≡ has separator (from self.now at) }
+        ensures there { IsTrue result → from self.now at ≡ separator_token separator ∷ from self.now (at + 1) }
         ensures within { IsTrue result → at < length self.now.tokens.now }
     {
         match self.word(at) {
-            Some(Word::Comma) => true,
-            _ => false,
-        }
-    }
-
-    pub fn is_slash(&self, at: usize) -> bool
-        ensures value { result ≡ has_slash (from self.now at) }
-        ensures there { IsTrue result → from self.now at ≡ slash ∷ from self.now (at + 1) }
-        ensures within { IsTrue result → at < length self.now.tokens.now }
-    {
-        match self.word(at) {
-            Some(Word::Slash) => true,
-            _ => false,
-        }
-    }
-
-    pub fn is_colon(&self, at: usize) -> bool
-        ensures value { result ≡ has_colon (from self.now at) }
-        ensures there { IsTrue result → from self.now at ≡ colon ∷ from self.now (at + 1) }
-        ensures within { IsTrue result → at < length self.now.tokens.now }
-    {
-        match self.word(at) {
-            Some(Word::Colon) => true,
+            Some(Word::Separator(found)) => found == separator,
             _ => false,
         }
     }

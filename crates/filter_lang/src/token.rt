@@ -7,13 +7,19 @@ ghost use Rattle.filter_lang.specs.TokenView.{plain_token};
 use crate::expr::FilterPrefix;
 use c_operators::BinaryOp;
 
+/// What stands between the parts of a filter.
+#[derive(Clone, Copy, Debug, PartialEq, Eq)]
+pub enum Separator {
+    Comma,
+    Slash,
+    Colon,
+}
+
 /// What a token says.
 #[derive(Clone, Copy, Debug, PartialEq, Eq)]
 pub enum Word<'a> {
     Name(&'a [u8]),
-    Comma,
-    Slash,
-    Colon,
+    Separator(Separator),
     Number(u64),
     Text(&'a [u8]),
     Field(&'a [u8]),
