@@ -1,11 +1,10 @@
 // The header of a partial file, which stops before the command lines or after them.
 
-ghost use Rattle.std.specs.Prelude.{◌≡◌, ◌^◌, ◌<◌, ◌≤◌, [], length, IfOk, IsErrOf};
-ghost use Rattle.trace_outside.specs.Causes.{Rose, raised};
+ghost use Rattle.std.specs.Prelude.{◌≡◌, ◌^◌, ◌<◌, ◌≤◌, [], length, IfOk};
 ghost use Rattle.trace_outside.specs.Keeping.{KeepsFile};
 ghost use Rattle.trace_outside.specs.Seen.{file_seen};
 ghost use Rattle.dat_header.specs.Partial.{IsPartial, ReadsPartial, cmdlines_at, partial_header, partial_of};
-ghost use Rattle.dat_options.specs.Answer.{KeptUnlessRead};
+ghost use Rattle.dat_header.specs.HeaderReads.{HeaderReads};
 ghost use Rattle.dat_header.specs.Steps.{Finds, Steps};
 
 use crate::carried::read_described;
@@ -28,11 +27,7 @@ use trace_outside::File;
 /// As those of `read_header`, for these items.
 pub fn read_partial<F: File>(alloc: Global, file: &mut F) -> Result<Header, OpenFault>
     ensures answer { ReadsPartial (F.bytes file.old) result }
-    ensures read { IsErrOf result OpenFault.Read → Rose (F.faults file.old) (F.faults file.new) }
-    ensures kept { KeptUnlessRead (F.faults file.old) (F.faults file.new) result }
-    ensures reads { IfOk result (λ header. F.reads file.new ≤ raised (F.reads file.old) header.end) }
-    ensures most { F.reads file.new ≤ raised (F.reads file.old) (F.size file.old) }
-    ensures end_inside { IfOk result (λ header. header.end ≤ F.size file.old) }
+    ensures file { HeaderReads (file_seen F.File file.old) (file_seen F.File file.new) result }
     ensures partial { IfOk result IsPartial }
     ensures keeps { KeepsFile F.File file.old file.new }
 {

@@ -1,12 +1,11 @@
 // The whole header, read piece after piece.
 
-ghost use Rattle.std.specs.Prelude.{◌≡◌, ◌≤◌, IfOk, IsErrOf};
-ghost use Rattle.trace_outside.specs.Causes.{Rose, raised};
+ghost use Rattle.std.specs.Prelude.{◌≤◌, IfOk};
 ghost use Rattle.trace_outside.specs.Keeping.{KeepsFile};
 ghost use Rattle.trace_outside.specs.Seen.{file_seen};
 ghost use Rattle.dat_header.specs.Header.{ReadsHeader, header_of};
 ghost use Rattle.dat_header.specs.Allowed.{IsHeader, IsBody};
-ghost use Rattle.dat_options.specs.Answer.{KeptUnlessRead};
+ghost use Rattle.dat_header.specs.HeaderReads.{HeaderReads};
 ghost use Rattle.dat_header.specs.Steps.{Steps};
 
 use crate::carried::read_carried;
@@ -28,11 +27,7 @@ use trace_outside::File;
 /// only where a read failed, and `Memory` only where there was no memory; no memory is taken for what is not there.
 pub fn read_header<F: File>(alloc: Global, file: &mut F) -> Result<Header, OpenFault>
     ensures answer { ReadsHeader (F.bytes file.old) result }
-    ensures read { IsErrOf result OpenFault.Read → Rose (F.faults file.old) (F.faults file.new) }
-    ensures kept { KeptUnlessRead (F.faults file.old) (F.faults file.new) result }
-    ensures reads { IfOk result (λ header. F.reads file.new ≤ raised (F.reads file.old) header.end) }
-    ensures most { F.reads file.new ≤ raised (F.reads file.old) (F.size file.old) }
-    ensures end_inside { IfOk result (λ header. header.end ≤ F.size file.old) }
+    ensures file { HeaderReads (file_seen F.File file.old) (file_seen F.File file.new) result }
     ensures allowed { IfOk result IsHeader }
     ensures cpus { IfOk result (λ header. header.cpus ≤ 1024) }
     ensures parts { IfOk result (λ header. IsBody header.cpus header.body) }

@@ -1,23 +1,14 @@
-use Rattle.std.proofs.Common.{◌≤◌, arith}
+use Rattle.std.proofs.Common.{◌≤◌}
 use Rattle.std.proofs.lemmas.Result.{IfOk-weaker}
 use Rattle.dat_header.specs.Allowed.{IsHeader, IsBody}
-use Rattle.dat_header.proofs.Headers.{reads_whole}
+use Rattle.dat_header.proofs.Headers.{header_reads}
 use Rattle.dat_header.proofs.read.read_header.Goals as goal
 
 pub returns-clause-answer : goal.returns-clause-answer
 returns-clause-answer g c = c.read_pieces.ensures.steps.answer
 
-pub returns-clause-read : goal.returns-clause-read
-returns-clause-read g c = c.read_pieces.ensures.steps.cause
-
-pub returns-clause-kept : goal.returns-clause-kept
-returns-clause-kept g c = c.read_pieces.ensures.steps.kept
-
-pub returns-clause-reads : goal.returns-clause-reads
-returns-clause-reads g c = reads_whole _ _ _ c.read_pieces.ensures.steps.reads
-
-pub returns-clause-most : goal.returns-clause-most
-returns-clause-most g c = omega (arith, c.read_pieces.ensures.steps.most)
+pub returns-clause-file : goal.returns-clause-file
+returns-clause-file g c = header_reads _ _ _ _ c.read_pieces.ensures.steps
 
 pub returns-clause-cpus : goal.returns-clause-cpus
 returns-clause-cpus g c = IfOk-weaker c.read_pieces.result IsHeader (λ header. header.cpus ≤ 1024) (λ header is. is.cpus) c.read_pieces.ensures.allowed

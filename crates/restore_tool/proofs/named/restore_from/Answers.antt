@@ -35,7 +35,7 @@ returns-in-Err-clause-done g c =
     partial_unread (names_view c.args.names.now) c.args.names.now.output.now counts counts (g.D.Folder.files c.args.folder.now) _ (g.D.In.File.bytes c.args.partial.now) _ c.unread_of.result c.unread_of.ensures c.in-Err.ensures.answer refl refl
 
 pub returns-in-Err-clause-causes : goal.returns-in-Err-clause-causes
-returns-in-Err-clause-causes g c = unread_causes _ c.unread_of.result _ _ c.unread_of.ensures (λ is. inr (c.read_partial.ensures.read (c.in-Err.is ∙ ap Err is)))
+returns-in-Err-clause-causes g c = unread_causes _ c.unread_of.result _ _ c.unread_of.ensures (λ is. inr (c.read_partial.ensures.file.cause (c.in-Err.is ∙ ap Err is)))
 
 pub returns-in-Err-clause-created : goal.returns-in-Err-clause-created
 returns-in-Err-clause-created g c = unread_created _ c.unread_of.result _ _ c.unread_of.ensures refl
@@ -58,18 +58,18 @@ returns-in-Err-clause-unread g c =
 pub returns-in-Ok-clause-memory : goal.returns-in-Ok-clause-memory
 returns-in-Ok-clause-memory g c =
     let kept = KeepsFaults (g.D.Folder.counts c.args.folder.now) (g.D.Folder.counts c.restore_under.new.folder) in
-    memory_map c.restore_under.result kept (kept × (g.D.In.File.faults c.read_partial.new.file ≡ g.D.In.File.faults c.args.partial.now)) (λ so_far. (so_far, c.in-Ok.ensures.kept)) c.restore_under.ensures.memory
+    memory_map c.restore_under.result kept (kept × (g.D.In.File.faults c.read_partial.new.file ≡ g.D.In.File.faults c.args.partial.now)) (λ so_far. (so_far, c.in-Ok.ensures.file.kept)) c.restore_under.ensures.memory
 
 pub returns-in-Ok-clause-header_reads : goal.returns-in-Ok-clause-header_reads
 returns-in-Ok-clause-header_reads g c =
-    made_anyhow c.restore_under.result _ (header_within (g.D.In.File.bytes c.args.partial.now) c.in-Ok.header _ _ c.in-Ok.ensures.answer c.in-Ok.ensures.reads)
+    made_anyhow c.restore_under.result _ (header_within (g.D.In.File.bytes c.args.partial.now) c.in-Ok.header _ _ c.in-Ok.ensures.answer c.in-Ok.ensures.file.reads)
 
 pub returns-in-Err-clause-requested : goal.returns-in-Err-clause-requested
 returns-in-Err-clause-requested g c = unread_asks _ c.unread_of.result (asked_behind (names_view c.args.names.now)) (g.D.Folder.requested c.args.folder.now) c.unread_of.ensures
 
 pub returns-in-Err-clause-memory : goal.returns-in-Err-clause-memory
 returns-in-Err-clause-memory g c =
-    unread_memory _ c.unread_of.result (g.D.In.File.faults c.args.partial.now) (g.D.In.File.faults c.read_partial.new.file) _ c.unread_of.ensures (λ same. (no_faults (g.D.Folder.counts c.args.folder.now), same)) c.in-Err.ensures.kept
+    unread_memory _ c.unread_of.result (g.D.In.File.faults c.args.partial.now) (g.D.In.File.faults c.read_partial.new.file) _ c.unread_of.ensures (λ same. (no_faults (g.D.Folder.counts c.args.folder.now), same)) c.in-Err.ensures.file.kept
 
 pub returns-in-Err-clause-reads : goal.returns-in-Err-clause-reads
 returns-in-Err-clause-reads g c = nothing_within (g.D.Folder.files c.args.folder.now) (names_view c.args.names.now) _ _ refl

@@ -5,5 +5,5 @@ returns-in-Ok-basis_of-clause-read g c = record {
   header = c.in-Ok.header;
   read = c.in-Ok.ensures.answer;
   stands = c.in-Ok-basis_of.ensures;
-  reads = c.in-Ok.ensures.reads;
+  reads = c.in-Ok.ensures.file.reads;
 }

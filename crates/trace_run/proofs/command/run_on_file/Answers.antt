@@ -1,4 +1,4 @@
-use Rattle.std.proofs.Common.{◌≡◌, ◌∙◌, length, rules, arith, List, ℕ, IfSome, Option, Ok, subst, sym}
+use Rattle.std.proofs.Common.{◌≡◌, ◌∙◌, length, rules, arith, List, ℕ, IfSome, Option, Ok, Err, ap, subst, sym}
 use Rattle.dat_header.specs.Header.{ReadsHeader}
 use Rattle.run_words.specs.Job.{command_view}
 use Rattle.run_endings.proofs.Endings.{no_memory_map}
@@ -21,10 +21,10 @@ pub returns-in-Ok-clause-reads : goal.returns-in-Ok-clause-reads
 returns-in-Ok-clause-reads g c =
     let long = subst (λ (n : ℕ). IfSome (g.F.In.File.bytes c.args.file.now) (λ bytes. length bytes ≡ n)) (sym c.read_header.ensures.keeps.size) (g.met.F.In.File.size_is c.args.file.now) in
     read_behind_header (command_view c.args.command.now) c.in-Ok.header _ _ _ _ c.run_on_header.result _ _ _ _ c.read_header.ensures.keeps.bytes long c.in-Ok.ensures.answer
-    c.in-Ok.ensures.reads c.run_on_header.ensures.reads c.run_on_header.ensures.due
+    c.in-Ok.ensures.file.reads c.run_on_header.ensures.reads c.run_on_header.ensures.due
 
 pub returns-in-Err-Read-clause-worked : goal.returns-in-Err-Read-clause-worked
-returns-in-Err-Read-clause-worked g c = header_unread (command_view c.args.command.now) _ _ _ (search rules)
+returns-in-Err-Read-clause-worked g c = header_unread (command_view c.args.command.now) _ _ _ (c.in-Err-Read.ensures.file.cause (ap Err c.in-Err-Read.field-0-is))
 
 pub returns-in-Err-Memory-clause-worked : goal.returns-in-Err-Memory-clause-worked
 returns-in-Err-Memory-clause-worked g c = header_unheld (command_view c.args.command.now) _ _ _
@@ -39,7 +39,7 @@ returns g c = record {
 
 pub returns-in-Ok-clause-kept : goal.returns-in-Ok-clause-kept
 returns-in-Ok-clause-kept g c =
-    let joined = λ (same : g.F.In.File.faults c.run_on_header.new.file ≡ g.F.In.File.faults c.read_header.new.file). same ∙ c.in-Ok.ensures.kept in
+    let joined = λ (same : g.F.In.File.faults c.run_on_header.new.file ≡ g.F.In.File.faults c.read_header.new.file). same ∙ c.in-Ok.ensures.file.kept in
     no_memory_map c.run_on_header.result joined c.run_on_header.ensures.kept
 
 pub returns-in-Ok-clause-gathers : goal.returns-in-Ok-clause-gathers
