@@ -28,12 +28,12 @@ abbrev pub show_of : ReportData → Layout → Show
 show_of words layout = record {
   order = layout.order;
   long = layout.commit_size;
-  full = words.full;
-  diff = words.diff;
-  latency = words.latency;
-  raw = words.raw;
-  no_hard = words.no_hard;
-  no_soft = words.no_soft;
+  full = words.line.full;
+  diff = words.line.diff;
+  latency = words.line.latency;
+  raw = words.line.raw;
+  no_hard = words.line.no_hard;
+  no_soft = words.line.no_soft;
   raw_events = words.raw_events;
 }
 

@@ -72,12 +72,12 @@ fn show_by(alloc: Global, words: &ReportWords<'_>, layout: &Layout) -> Result<Sh
     Ok(Show {
         order: layout.order,
         long: layout.commit_size,
-        full: words.full,
-        diff: words.diff,
-        latency: words.latency,
-        raw: words.raw,
-        no_hard: words.no_hard,
-        no_soft: words.no_soft,
+        full: words.line.full,
+        diff: words.line.diff,
+        latency: words.line.latency,
+        raw: words.line.raw,
+        no_hard: words.line.no_hard,
+        no_soft: words.line.no_soft,
         raw_events: texts_of(alloc, &words.raw_events)?,
     })
 }

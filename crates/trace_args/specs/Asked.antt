@@ -17,6 +17,7 @@ use Rattle.word_values.specs.CpuList.{cpu_set, cpu_number}
 use Rattle.word_values.specs.Number.{worker_count, seed_number, event_count, piece_count}
 use Rattle.word_values.specs.Moments.{moment_of}
 use Rattle.word_values.specs.Pieces.{piece}
+use Rattle.trace_args.specs.declared.command.LineOptions.{LineOptions}
 use Rattle.trace_args.specs.declared.tool.Tool.{Tool}
 use Rattle.trace_args.specs.declared.tool.Tool.TheVariants as tool
 use Rattle.trace_args.specs.declared.option.FlagOption.TheVariants as flag
@@ -62,19 +63,26 @@ abbrev pub workers_of : List Setting → ℕ
 workers_of settings =
     unwrap_or (option_and_then (λ text. worker_count text.bytes) (value_of valued.Workers settings)) 1
 
+-- what is shown of each line of a report
+abbrev pub line_options_of : List Setting → LineOptions
+line_options_of settings =
+    record {
+      full = is_set flag.FullTime settings;
+      diff = is_set flag.Differences settings;
+      latency = is_set flag.Latency settings;
+      raw = is_set flag.Raw settings;
+      no_hard = is_set flag.NoHard settings;
+      no_soft = is_set flag.NoSoft settings;
+    }
+
 abbrev pub report_of : List Setting → ReportData
 report_of settings =
     record {
       input = first_input settings;
       more = more_inputs settings;
       filters = filters_from false settings;
-      full = is_set flag.FullTime settings;
-      diff = is_set flag.Differences settings;
-      latency = is_set flag.Latency settings;
-      raw = is_set flag.Raw settings;
+      line = line_options_of settings;
       raw_events = texts_of valued.RawEvent settings;
-      no_hard = is_set flag.NoHard settings;
-      no_soft = is_set flag.NoSoft settings;
       calls = is_set flag.Calls settings;
       list = listing_of settings;
       wakeups = is_set flag.Wakeups settings;

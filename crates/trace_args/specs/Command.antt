@@ -6,6 +6,7 @@ use Rattle.word_values.specs.declared.piece.PieceUnit.{PieceUnit}
 use Rattle.trace_args.specs.declared.command.Command.{Command}
 use Rattle.trace_args.specs.declared.command.Command.TheVariants as code
 use Rattle.trace_args.specs.declared.command.ReportWords.{ReportWords}
+use Rattle.trace_args.specs.declared.command.LineOptions.{LineOptions}
 use Rattle.trace_args.specs.declared.command.FilterWord.{FilterWord}
 use Rattle.trace_args.specs.declared.command.DumpWords.{DumpWords}
 use Rattle.trace_args.specs.declared.command.SelfWords.{SelfWords}
@@ -23,13 +24,8 @@ pub record ReportData : Type 0 where
   pub input : List ℕ
   pub more : List (List ℕ)
   pub filters : List FilterData
-  pub full : Bool
-  pub diff : Bool
-  pub latency : Bool
-  pub raw : Bool
+  pub line : LineOptions
   pub raw_events : List (List ℕ)
-  pub no_hard : Bool
-  pub no_soft : Bool
   pub calls : Bool
   pub list : Option Listing
   pub wakeups : Bool
@@ -77,13 +73,8 @@ report_view w =
       input = w.input.now;
       more = map (λ name. name.now) w.more.items;
       filters = map filter_view w.filters.items;
-      full = w.full;
-      diff = w.diff;
-      latency = w.latency;
-      raw = w.raw;
+      line = w.line;
       raw_events = map (λ name. name.now) w.raw_events.items;
-      no_hard = w.no_hard;
-      no_soft = w.no_soft;
       calls = w.calls;
       list = w.list;
       wakeups = w.wakeups;

@@ -1,7 +1,7 @@
 ghost use Rattle.std.specs.Prelude.{◌≡◌, IfOk, MatchResult, map};
 ghost use Rattle.std.specs.List.{list_any};
 ghost use Rattle.word_values.specs.Sections.{sections};
-ghost use Rattle.trace_args.specs.Asked.{base_of, bound_of, command_of, cpu_of, cpus_of, dump_of, events_of, first_input, input_of, is_printed, listing_of, more_inputs, names_any, names_section, output_of, piece_by, report_of, restore_of, seed_of, self_of, split_of, text_or, unit_of, work_of, workers_of};
+ghost use Rattle.trace_args.specs.Asked.{base_of, bound_of, command_of, cpu_of, cpus_of, dump_of, events_of, first_input, input_of, is_printed, line_options_of, listing_of, more_inputs, names_any, names_section, output_of, piece_by, report_of, restore_of, seed_of, self_of, split_of, text_or, unit_of, work_of, workers_of};
 ghost use Rattle.trace_args.specs.Command.{command_view, dump_view, report_view, restore_view, self_view, split_view};
 ghost use Rattle.trace_args.specs.Faults.{no_memory};
 ghost use Rattle.trace_args.specs.Given.{is_set};
@@ -44,20 +44,10 @@ pub struct ReportWords<'a> {
     pub more: Vec<&'a str>,
     /// `-F` and `-v`: the filters, in their order.
     pub filters: Vec<FilterWord<'a>>,
-    /// `-t`: times are printed to the nanosecond.
-    pub full: bool,
-    /// `--ts-diff`: the difference to the last shown event is printed after each time.
-    pub diff: bool,
-    /// `-l`: the latency columns are printed.
-    pub latency: bool,
-    /// `-R`: all fields of all events are printed as they are.
-    pub raw: bool,
+    /// What is shown of each line.
+    pub line: LineOptions,
     /// `-r`: the names of events whose fields are printed as they are.
     pub raw_events: Vec<&'a str>,
-    /// `-I`: events in a hard interrupt are hidden.
-    pub no_hard: bool,
-    /// `-S`: events in a soft interrupt are hidden.
-    pub no_soft: bool,
     /// `--calls`: the function graph's calls are printed in place of the events.
     pub calls: bool,
     /// The list that is printed in place of the events, where one is.
@@ -68,6 +58,23 @@ pub struct ReportWords<'a> {
     pub cpus: Option<CpuSet>,
     /// `--workers`: how many threads work, from 1 to 64.
     pub workers: u32,
+}
+
+/// What is shown of each line of a report.
+#[derive(Clone, Copy)]
+pub struct LineOptions {
+    /// `-t`: times are printed to the nanosecond.
+    pub full: bool,
+    /// `--ts-diff`: the difference to the last shown event is printed after each time.
+    pub diff: bool,
+    /// `-l`: the latency columns are printed.
+    pub latency: bool,
+    /// `-R`: all fields of all events are printed as they are.
+    pub raw: bool,
+    /// `-I`: events in a hard interrupt are hidden.
+    pub no_hard: bool,
+    /// `-S`: events in a soft interrupt are hidden.
+    pub no_soft: bool,
 }
 
 /// A filter of `report`.
@@ -184,19 +191,29 @@ impl<'a> ReportWords<'a> {
             input: first_input(given),
             more,
             filters,
-            full: given.is_set(FlagOption::FullTime),
-            diff: given.is_set(FlagOption::Differences),
-            latency: given.is_set(FlagOption::Latency),
-            raw: given.is_set(FlagOption::Raw),
+            line: LineOptions::asked(given),
             raw_events,
-            no_hard: given.is_set(FlagOption::NoHard),
-            no_soft: given.is_set(FlagOption::NoSoft),
             calls: given.is_set(FlagOption::Calls),
             list: listing(given),
             wakeups: given.is_set(FlagOption::Wakeups),
             cpus: cpus(given),
             workers: workers(given),
         })
+    }
+}
+
+impl LineOptions {
+    fn asked(given: &Given<'_>) -> LineOptions
+        ensures { result ≡ line_options_of (given_view given.now) }
+    {
+        LineOptions {
+            full: given.is_set(FlagOption::FullTime),
+            diff: given.is_set(FlagOption::Differences),
+            latency: given.is_set(FlagOption::Latency),
+            raw: given.is_set(FlagOption::Raw),
+            no_hard: given.is_set(FlagOption::NoHard),
+            no_soft: given.is_set(FlagOption::NoSoft),
+        }
     }
 }
 

@@ -4,6 +4,7 @@
 use Rattle.std.specs.Prelude.{None, ℕ, false, List, []}
 use Rattle.std.specs.List.{enumerate_from}
 use Rattle.subpage.specs.Arrangement.{Keyed, arranged}
+use Rattle.trace_args.specs.declared.command.LineOptions.{LineOptions}
 use Rattle.trace_args.specs.Command.{ReportData, SelfData}
 use Rattle.trace_gen.specs.Generated.{lists_of}
 use Rattle.trace_gen.specs.GeneratedHeader.{header_but_parts}
@@ -12,19 +13,18 @@ use Rattle.report_context.specs.Context.{context_of}
 use Rattle.file_report.specs.Report.{report_pieces}
 use Rattle.trace_outside.specs.Pieces.{text_of}
 
+-- what is shown of each line without options
+abbrev pub plain_lines : LineOptions
+plain_lines = record { full = false; diff = false; latency = false; raw = false; no_hard = false; no_soft = false }
+
 -- the words of a report without options
 abbrev pub plain_report : ReportData
 plain_report = record {
   input = [];
   more = [];
   filters = [];
-  full = false;
-  diff = false;
-  latency = false;
-  raw = false;
+  line = plain_lines;
   raw_events = [];
-  no_hard = false;
-  no_soft = false;
   calls = false;
   list = None;
   wakeups = false;

@@ -13,7 +13,7 @@ use file_report::{ReportPlan, print_report};
 use run_endings::{Resources, Status};
 use std::alloc::{AllocError, Global};
 use std::thread::Threads;
-use trace_args::{ReportWords, SelfWords};
+use trace_args::{LineOptions, ReportWords, SelfWords};
 use trace_base::ByteText;
 use trace_gen::{generate, summary_line};
 use trace_outside::{Failed, Gate, MemSink, Sink, write_all};
@@ -82,13 +82,15 @@ fn plain_words(alloc: Global, workers: u32) -> ReportWords<'static>
         input: "",
         more: Vec::new(alloc),
         filters: Vec::new(alloc),
-        full: false,
-        diff: false,
-        latency: false,
-        raw: false,
+        line: LineOptions {
+            full: false,
+            diff: false,
+            latency: false,
+            raw: false,
+            no_hard: false,
+            no_soft: false,
+        },
         raw_events: Vec::new(alloc),
-        no_hard: false,
-        no_soft: false,
         calls: false,
         list: None,
         wakeups: false,
