@@ -38,41 +38,6 @@ fn print_front<O: Sink>(
     Ok(())
 }
 
-/// Puts the lines that are due, by key, then processor, then position, keeps them no longer, and makes their lanes dirty.
-fn put_round<O: Sink>(
-    horizon: &Horizon,
-    lanes: &mut [Lane],
-    heads: &mut TournamentTree,
-    moved: &mut [bool],
-    last: &mut Option<u64>,
-    pending: &mut Pending,
-    out: &mut O,
-) -> Result<(), Failed>
-    requires rising { AreRising lanes.old }
-    requires heads { heads.old ≡ map head_kept lanes.old }
-    requires marks { length moved.old ≡ length lanes.old }
-    ensures puts { Puts (filled_text last.old (printed horizon.now lanes.old)) (O.written out.old) pending.old
-        (O.written out.new) pending.new result }
-    ensures round { IfOk result (λ _. IsRound horizon.now
-        (round_over lanes.old heads.old moved.old last.old)
-        (round_over lanes.new heads.new moved.new last.new)) }
-    ensures slots { KeepsSlots (round_over lanes.old heads.old moved.old last.old)
-        (round_over lanes.new heads.new moved.new last.new) }
-    ensures name { O.name out.new ≡ O.name out.old }
-    ensures cause { HasCause (O.faults out.old) (O.faults out.new) result }
-{
-    // Of which lane a line went out alone just before.
-    let mut alone = None;
-    while let Some(i) = least_due(horizon, lanes, heads) {
-        let count = run_of(horizon, &lanes[i], heads, i, alone, *last);
-        print_front(horizon, &mut lanes[i], count, last, pending, out)?;
-        heads.set(i, head_kept(&lanes[i]));
-        moved[i] = true;
-        alone = (count == 1).then_some(i);
-    }
-    Ok(())
-}
-
 /// Writes the lines that the lanes keep and that stand at or before the horizon, by key, then processor, then position,
 /// and keeps them no longer. Each is filled from the last time, `last` at first; after the call it is that of the last
 /// line with a hole. A region that keeps no line any more has all its bytes free.
@@ -108,6 +73,14 @@ pub fn print_round<O: Sink>(
     ensures cause { HasCause (O.faults out.old) (O.faults out.new) result }
     ensures empty { IfOk result (λ _. pending.new ≡ []) }
 {
-    put_round(horizon, lanes, heads, moved, last, pending, out)?;
+    // Of which lane a line went out alone just before.
+    let mut alone = None;
+    while let Some(i) = least_due(horizon, lanes, heads) {
+        let count = run_of(horizon, &lanes[i], heads, i, alone, *last);
+        print_front(horizon, &mut lanes[i], count, last, pending, out)?;
+        heads.set(i, head_kept(&lanes[i]));
+        moved[i] = true;
+        alone = (count == 1).then_some(i);
+    }
     pending.flush(out)
 }

@@ -1,4 +1,4 @@
-use Rattle.std.proofs.Common.{◌≡◌, ℕ, ◌<◌, List, ◌++◌, length, map, Option}
+use Rattle.std.proofs.Common.{◌≡◌, ℕ, ◌<◌, List, ◌++◌, length, map}
 use Rattle.std.specs.Prelude.{slice_index_or}
 use Rattle.trace_outside.specs.Pending.{Holds}
 use Rattle.page_pool.specs.declared.lane.Lane.{Lane}
@@ -7,11 +7,11 @@ use Rattle.time_merge.specs.LaneRows.{parts_of}
 use Rattle.round_print.specs.Prints.{filled, head_kept, last_of, printed, text_of}
 use Rattle.round_print.specs.Rounds.{AreRising, IsPrinting, KeepsMarks, MarksPrinted}
 use Rattle.round_print.proofs.MovedLanes.{KeepNoMore}
-use Rattle.round_print.proofs.rounds.put_round.Given as goal
+use Rattle.round_print.proofs.rounds.print_round.Given as goal
 
 abbrev pub invariant-loop-i : goal.invariant-loop-i
 invariant-loop-i g l = record {
-  text : (done : List ℕ) × ((done ++ text_of (filled l.last (printed l.horizon l.lanes)) ≡ text_of (filled l.fn.last (printed l.horizon l.fn.lanes))) × ((before : Option (List ℕ)) → (text : List ℕ) → Holds before (g.O.Sink.written l.fn.out) l.fn.pending text → Holds before (g.O.Sink.written l.out) l.pending (text ++ done)));
+  text : (done : List ℕ) × ((done ++ text_of (filled l.last (printed l.horizon l.lanes)) ≡ text_of (filled l.fn.last (printed l.horizon l.fn.lanes))) × Holds (g.O.Sink.written l.fn.out) (g.O.Sink.written l.out) l.pending done);
   last : last_of l.last (printed l.horizon l.lanes) ≡ last_of l.fn.last (printed l.horizon l.fn.lanes);
   name : g.O.Sink.name l.out ≡ g.O.Sink.name l.fn.out;
   faults : g.O.Sink.faults l.out ≡ g.O.Sink.faults l.fn.out;
