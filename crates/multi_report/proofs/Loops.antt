@@ -7,7 +7,7 @@ use Rattle.std.proofs.lemmas.List.Elements.{All-from_get_or, All-get_or}
 use Rattle.tournament_tree.specs.declared.slot_key.SlotKey.{SlotKey}
 use Rattle.tournament_tree.specs.declared.slot_key.SlotKey.TheVariants.{Empty}
 use Rattle.trace_outside.specs.Causes.{Rose}
-use Rattle.multi_report.specs.Sources.{SourceView, IsKnown, IsPrepared, IsReadied, Keeps, next_key}
+use Rattle.multi_report.specs.Sources.{SourceView, HasOwnLayouts, IsKnown, IsPrepared, IsReadied, Keeps, next_key}
 use Rattle.multi_report.specs.Turns.{AreReadied}
 use Rattle.multi_report.proofs.Files.{Tied, same_one}
 
@@ -24,6 +24,7 @@ as_long f xs ys e = length-map xs f ∙ e ∙ sym (length-map ys f)
 pub record IsBegun (first now : SourceView) (key : SlotKey) : Type 0 where
   pub readied : IsReadied first now
   pub key_is : IsKnown now → key ≡ next_key now
+  pub layouts : HasOwnLayouts first
 
 abbrev pub AreBegun : List SourceView → List SourceView → List SlotKey → ℕ → Type 0
 AreBegun first now keys j = (i : ℕ) (d : SourceView) → i < j → IsBegun (get_or first i d) (get_or now i d) (get_or keys i Empty)
@@ -62,11 +63,11 @@ module _ {S : Type 0} (f : S → SourceView) (first xs : List S) (j : ℕ) (d ne
   still_set still i e le = other i e (λ same. omega (arith, same, le)) ∙ still i e (omega (arith, le))
 
   pub begun_set : (keys : List SlotKey) (key : SlotKey) → j < length keys → AreStill (map f first) (map f xs) j
-      → IsReadied (f (get_or xs j d)) (f new) → (IsKnown (f new) → key ≡ next_key (f new))
+      → IsReadied (f (get_or xs j d)) (f new) → (IsKnown (f new) → key ≡ next_key (f new)) → HasOwnLayouts (f (get_or xs j d))
       → AreBegun (map f first) (map f xs) keys j → AreBegun (map f first) (map f (set xs j new)) (set keys j key) (j + 1)
-  begun_set keys key room still readied key_is begun i e le = elim (cases_eq i j) as (λ _. IsBegun (get_or (map f first) i e) (get_or (map f (set xs j new)) i e) (get_or (set keys j key) i Empty)) [
+  begun_set keys key room still readied key_is layouts begun i e le = elim (cases_eq i j) as (λ _. IsBegun (get_or (map f first) i e) (get_or (map f (set xs j new)) i e) (get_or (set keys j key) i Empty)) [
     | inl same ↦
-        let one : IsBegun (get_or (map f first) j e) (f new) key = record { readied = subst (λ (s : SourceView). IsReadied s (f new)) (was e still) readied; key_is = key_is } in
+        let one : IsBegun (get_or (map f first) j e) (f new) key = record { readied = subst (λ (s : SourceView). IsReadied s (f new)) (was e still) readied; key_is = key_is; layouts = subst HasOwnLayouts (was e still) layouts } in
         let at : IsBegun (get_or (map f first) j e) (get_or (map f (set xs j new)) j e) (get_or (set keys j key) j Empty) =
         subst (λ (s : SourceView). IsBegun (get_or (map f first) j e) s (get_or (set keys j key) j Empty)) (sym (here e))
         (subst (λ (k : SlotKey). IsBegun (get_or (map f first) j e) (f new) k) (sym (get_or-set_same keys j key Empty room)) one) in
@@ -96,6 +97,9 @@ module _ (first now : List SourceView) (keys : List SlotKey) (j : ℕ) (long : l
       prepared : (xs : List SourceView) → ((i : ℕ) (d : SourceView) → i < length xs → IsPrepared (get_or xs i d)) → All IsPrepared xs
       prepared [] each = λ i d lt. absurd (omega (arith, lt))
       prepared (x ∷ xs) each = All-from_get_or IsPrepared (x ∷ xs) x (λ i lt. each i x lt)
+
+  pub all_own : All HasOwnLayouts first
+  all_own i d lt = (begun i d (omega (arith, lt, end))).layouts
 
   pub all_keys : length keys ≡ length first → All IsKnown now → keys ≡ map next_key now
   all_keys slots known =

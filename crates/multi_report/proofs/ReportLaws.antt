@@ -10,7 +10,7 @@ use Rattle.trace_outside.specs.Pieces.{text_of}
 use Rattle.multi_report.specs.declared.report.FilesEnd.{FilesEnd}
 use Rattle.multi_report.specs.declared.report.FilesFault.{FilesFault}
 use Rattle.multi_report.specs.declared.report.FilesFault.TheVariants as fault
-use Rattle.multi_report.specs.Order.{ShownFile, cut_of_files, reached}
+use Rattle.multi_report.specs.Order.{FileCut, ShownFile, cut_of_files, reached}
 use Rattle.tournament_tree.specs.declared.slot_key.SlotKey.{SlotKey}
 use Rattle.multi_report.specs.Sources.{SourceView, HasOwnLayouts, IsFreshSource, IsKnown, Keeps, shown_of, next_key, to_come_of}
 use Rattle.multi_report.specs.Reports.{AreSame, IsEnded, IsFilesReport, ReadRose, head_line, lines, pieces}
@@ -25,20 +25,15 @@ whole_of sources = pieces (map shown_of sources)
 abbrev pub heads_of : List SourceView → List (List ℕ)
 heads_of sources = map head_line (map shown_of sources)
 
--- the first lines are on their way, and all items are left
-pub going_heads : (first now : List SourceView) (before written : Option (List ℕ)) (waiting waiting_now : List ℕ) → All HasOwnLayouts first → All IsFreshSource first → All (λ source. IsSome source.told) first → waiting ≡ []
-    → length now ≡ length first → Tied Keeps first now
+-- the first lines are on their way, and the lines of all items are left
+going_heads : (first : List SourceView) (before written : Option (List ℕ)) (waiting waiting_now : List ℕ) → waiting ≡ []
     → ((b : Option (List ℕ)) (text : List ℕ) → Holds b before waiting text → Holds b written waiting_now (text ++ text_of (heads_of first)))
-    → Going before (whole_of first) written waiting_now (lines_left now)
-going_heads first now before written waiting waiting_now layouts fresh told empty long tied puts =
-    let all_shown : map shown_of now ≡ map shown_of first = same_shown first now (keeps_same first now long tied) in
-    let left : to_come_of now ≡ reached (map shown_of first) = left_keeps first now long tied (all_fresh_known first layouts fresh told) ∙ fresh_left first layouts fresh in
-    let rest : lines_left now ≡ lines (map shown_of first) (reached (map shown_of first)) = ap (λ (gs : List ShownFile). lines gs (to_come_of now)) all_shown ∙ ap (lines (map shown_of first)) left in
-    record {
-      done = heads_of first;
-      holds = puts before [] (subst (λ (w : List ℕ). Holds before before w []) (sym empty) (holds_nothing before));
-      parted = ap (λ (ls : List (List ℕ)). heads_of first ++ ls) (sym rest);
-    }
+    → Going before (whole_of first) written waiting_now (lines (map shown_of first) (reached (map shown_of first)))
+going_heads first before written waiting waiting_now empty puts = record {
+  done = heads_of first;
+  holds = puts before [] (subst (λ (w : List ℕ). Holds before before w []) (sym empty) (holds_nothing before));
+  parted = refl;
+}
 
 -- the first lines could not be written
 pub heads_stopped : (first : List SourceView) (before written : Option (List ℕ)) (waiting : List ℕ) → waiting ≡ []
@@ -54,27 +49,32 @@ pub underway_first : (first now : List SourceView) (keys : List SlotKey) (before
     → IsUnderway before (whole_of first) (state_of now keys written waiting_now)
 underway_first first now keys before written waiting waiting_now layouts fresh told empty long tied keys_are puts =
     let known = known_all first now long tied (all_fresh_known first layouts fresh told) in
-    record { known = known; keys_are = keys_are known; going = going_heads first now before written waiting waiting_now layouts fresh told empty long tied puts }
+    let all_shown : map shown_of now ≡ map shown_of first = same_shown first now (keeps_same first now long tied) in
+    let left : to_come_of now ≡ reached (map shown_of first) = left_keeps first now long tied (all_fresh_known first layouts fresh told) ∙ fresh_left first layouts fresh in
+    let rest : lines_left now ≡ lines (map shown_of first) (reached (map shown_of first)) = ap (λ (gs : List ShownFile). lines gs (to_come_of now)) all_shown ∙ ap (lines (map shown_of first)) left in
+    record {
+      known = known;
+      keys_are = keys_are known;
+      going = subst (Going before (whole_of first) written waiting_now) (sym rest) (going_heads first before written waiting waiting_now empty puts);
+    }
 
 -- a read failed before the first item
-pub read_first : (first now : List SourceView) (before written new : Option (List ℕ)) (waiting waiting_now : List ℕ) (file : ℕ) → All HasOwnLayouts first → All IsFreshSource first → All (λ source. IsSome source.told) first → waiting ≡ []
-    → length now ≡ length first → Tied Keeps first now
+pub read_first : (first : List SourceView) (cut : Option FileCut) (before written new : Option (List ℕ)) (waiting waiting_now : List ℕ) (file : ℕ) → waiting ≡ []
     → ((b : Option (List ℕ)) (text : List ℕ) → Holds b before waiting text → Holds b written waiting_now (text ++ text_of (heads_of first)))
     → Gained written new waiting_now
-    → IsEnded (whole_of first) (cut_of_files (map shown_of now)) before new (Err (fault.Read file))
-read_first first now before written new waiting waiting_now file layouts fresh told empty long tied puts gained =
-    end_read before (whole_of first) (cut_of_files (map shown_of now)) written new waiting_now (lines_left now) file gained
-    (going_heads first now before written waiting waiting_now layouts fresh told empty long tied puts)
+    → IsEnded (whole_of first) cut before new (Err (fault.Read file))
+read_first first cut before written new waiting waiting_now file empty puts gained =
+    end_read before (whole_of first) cut written new waiting_now (lines (map shown_of first) (reached (map shown_of first))) file gained
+    (going_heads first before written waiting waiting_now empty puts)
 
 -- and what waited could not be written
-pub first_stopped : (first now : List SourceView) (before written new : Option (List ℕ)) (waiting waiting_now : List ℕ) → All HasOwnLayouts first → All IsFreshSource first → All (λ source. IsSome source.told) first → waiting ≡ []
-    → length now ≡ length first → Tied Keeps first now
+pub first_stopped : (first : List SourceView) (before written new : Option (List ℕ)) (waiting waiting_now : List ℕ) → waiting ≡ []
     → ((b : Option (List ℕ)) (text : List ℕ) → Holds b before waiting text → Holds b written waiting_now (text ++ text_of (heads_of first)))
     → GainedPrefix written new waiting_now
     → GainedPrefix before new (text_of (whole_of first))
-first_stopped first now before written new waiting waiting_now layouts fresh told empty long tied puts stopped =
-    waiting_stopped before (whole_of first) written new waiting_now (lines_left now) stopped
-    (going_heads first now before written waiting waiting_now layouts fresh told empty long tied puts)
+first_stopped first before written new waiting waiting_now empty puts stopped =
+    waiting_stopped before (whole_of first) written new waiting_now (lines (map shown_of first) (reached (map shown_of first))) stopped
+    (going_heads first before written waiting waiting_now empty puts)
 
 -- a count that rose since a turn began rose since the report began
 pub read_from : (why : FilesFault) (first before now : List SourceView) → AreSame first before → ReadRose why before now → ReadRose why first now

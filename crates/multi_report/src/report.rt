@@ -7,7 +7,7 @@ ghost use Rattle.multi_report.specs.Turns.{AreReadied, HasBegun, IsTurned, IsUnd
 
 use crate::printing::put_heads;
 use crate::source::Source;
-use crate::sources::{know_layouts, make_sources_ready};
+use crate::sources::make_sources_ready;
 use crate::taking::{Taken, take_from};
 use line_holes::LineFormat;
 use subpage::CutPlace;
@@ -68,7 +68,6 @@ fn begin<F: File, L: LineFormat, O: Sink>(
     ensures write { IfErr result (λ fault. WriteRose fault (O.faults out.old) (O.faults out.new)) }
     ensures keeps_out { KeepsSink O.Sink out.old out.new }
 {
-    know_layouts(sources);
     put_heads(sources, pending, out)?;
     match make_sources_ready(sources, nexts) {
         None => Ok(()),

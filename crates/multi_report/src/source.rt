@@ -4,7 +4,7 @@ ghost use Rattle.event_cursor.specs.Standing.{held_left};
 ghost use Rattle.page_pool.specs.declared.lane.Lane.{Lane};
 ghost use Rattle.page_pool.specs.declared.cursor.LaneState.TheVariants as state;
 ghost use Rattle.multi_report.specs.Nexts.{IsLaneStepped};
-ghost use Rattle.multi_report.specs.Sources.{IsKnown, IsPrepared, IsReadied, Keeps, next_key, seen};
+ghost use Rattle.multi_report.specs.Sources.{HasOwnLayouts, IsKnown, IsPrepared, IsReadied, Keeps, next_key, seen};
 
 use event_cursor::head_key;
 use line_holes::LineFormat;
@@ -28,7 +28,8 @@ pub struct Source<'a, F, L> {
 /// The key of what comes next of a file: of its first item, or of its cut.
 fn key_of_next<F: File, L: LineFormat>(source: &Source<'_, F, L>) -> SlotKey
     requires { IsPrepared (seen F.File L.text source.now) }
-    ensures { IsKnown (seen F.File L.text source.now) → result ≡ next_key (seen F.File L.text source.now) }
+    ensures key { IsKnown (seen F.File L.text source.now) → result ≡ next_key (seen F.File L.text source.now) }
+    ensures layouts { HasOwnLayouts (seen F.File L.text source.now) }
 {
     let lanes = source.lanes.all();
     match source.lanes.next() {
@@ -49,6 +50,7 @@ pub(crate) fn make_source_ready<F: File, L: LineFormat>(
     ensures readied { OnOk result (IsReadied (seen F.File L.text source.old) (seen F.File L.text source.new)) }
     ensures key { IfOk result (λ key. IsKnown (seen F.File L.text source.new)
         → key ≡ next_key (seen F.File L.text source.new)) }
+    ensures layouts { OnOk result (HasOwnLayouts (seen F.File L.text source.old)) }
     ensures cause { HasCause (F.faults source.old.file) (F.faults source.new.file) result }
 {
     source.lanes.make_ready(&mut source.file)?;

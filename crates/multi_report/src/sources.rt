@@ -8,15 +8,6 @@ use line_holes::LineFormat;
 use tournament_tree::TournamentTree;
 use trace_outside::{Failed, File};
 
-/// The lanes of each file have its layout: that is so by their type, and a look at them tells it.
-pub(crate) fn know_layouts<F: File, L: LineFormat>(sources: &[Source<'_, F, L>])
-    ensures { All HasOwnLayouts (map (seen F.File L.text) sources.now) }
-{
-    for j in 0..sources.len() {
-        let _ = sources[j].lanes.all();
-    }
-}
-
 /// Makes all lanes of all files ready, and gives a tree the key of what comes next of each file. Some: a read of that file
 /// failed.
 pub(crate) fn make_sources_ready<F: File, L: LineFormat>(
@@ -31,6 +22,7 @@ pub(crate) fn make_sources_ready<F: File, L: LineFormat>(
         (AreReadied (map (seen F.File L.text) sources.old) (map (seen F.File L.text) sources.new)) }
     ensures keys { IfNone result (All IsKnown (map (seen F.File L.text) sources.new)
         → nexts.new ≡ map next_key (map (seen F.File L.text) sources.new)) }
+    ensures layouts { IfNone result (All HasOwnLayouts (map (seen F.File L.text) sources.old)) }
     ensures read { IfSome result (λ j. (j < length sources.old) × ((d : SourceView)
         → Rose (slice_index_or (map (seen F.File L.text) sources.old) j d).faults
         (slice_index_or (map (seen F.File L.text) sources.new) j d).faults)) }

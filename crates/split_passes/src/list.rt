@@ -108,15 +108,16 @@ impl LaneList {
         self.tallies.as_slice()
     }
 
-    /// Passes over the items that stand before the start.
+    /// Passes over the items that stand before the start, where there is one.
     ///
     /// # Errors
     /// `Failed` where a read failed.
-    pub fn pass_over<F: File>(&mut self, file: &mut F, start: Moment) -> Result<(), Failed>
+    pub fn pass_over<F: File>(&mut self, file: &mut F, start: Option<Moment>) -> Result<(), Failed>
         ensures layout { self.new.layout ≡ self.old.layout }
+        ensures layouts { All (HasLayout self.old.layout) self.old.all }
         ensures through { GoThrough F.File file.old file.new self.old.all self.new.all }
         ensures told { OnOk result (IfSome (F.bytes file.old) (λ bytes. All (Stands bytes) self.old.all
-            → ListStarted bytes (Some start) self.old.all self.new.all)) }
+            → ListStarted bytes start self.old.all self.new.all)) }
         ensures reads_done { OnOk result (F.reads file.new ≤ raised (F.reads file.old)
             (all_unread (F.size file.old) self.old.all - all_unread (F.size file.old) self.new.all)) }
         ensures cause { HasCause (F.faults file.old) (F.faults file.new) result }
@@ -130,6 +131,7 @@ impl LaneList {
     /// `Failed` where a read failed.
     pub fn begin<F: File>(&mut self, file: &mut F) -> Result<(), Failed>
         ensures layout { self.new.layout ≡ self.old.layout }
+        ensures layouts { All (HasLayout self.old.layout) self.old.all }
         ensures loads { LoadsLanes F.File file.old file.new self.old.all self.new.all }
         ensures begun { OnOk result (IsBegun self.new) }
         ensures fronts_long { length self.new.fronts ≡ length self.new.all }
@@ -241,7 +243,7 @@ fn no_tallies(alloc: Global, count: usize) -> Result<Vec<Tally>, AllocError>
 fn pass_in<F: File>(
     file: &mut F,
     pool: &mut Pool,
-    start: Moment,
+    start: Option<Moment>,
     nexts: &mut TournamentTree,
 ) -> Result<(), Failed>
     requires rise { CpusRise (parts_of pool.old) }
@@ -249,11 +251,14 @@ fn pass_in<F: File>(
     ensures through { GoThrough F.File file.old file.new pool.old pool.new }
     ensures slots { length nexts.new ≡ length nexts.old }
     ensures told { OnOk result (IfSome (F.bytes file.old) (λ bytes. All (Stands bytes) pool.old
-        → ListStarted bytes (Some start) pool.old pool.new)) }
+        → ListStarted bytes start pool.old pool.new)) }
     ensures reads_done { OnOk result (F.reads file.new ≤ raised (F.reads file.old)
         (all_unread (F.size file.old) pool.old - all_unread (F.size file.old) pool.new)) }
     ensures cause { HasCause (F.faults file.old) (F.faults file.new) result }
 {
+    let Some(start) = start else {
+        return Ok(());
+    };
     pass_over(file, pool.lanes(), start, nexts)
 }
 

@@ -27,15 +27,14 @@ each_come file start (a ∷ first) (b ∷ now) long each =
     ap (λ (xs : List Keyed). xs ∷ map come_of (map (rows_in file) now)) (each 0 a (omega arith)).come
     ∙ ap (λ (xss : List (List Keyed)). from_start start (come_of (rows_in file a)) ∷ xss) (each_come file start first now (omega (arith, long)) (each_tail (StartsOn file start) a b first now each))
 
-pub all_started : (file : List ℕ) (rules : Rules) (start : Option Moment) (n : ℕ) (first now : List ListSeen) → rules.start ≡ start → AreGroups (is_apart rules) first → length now ≡ length first → EachList ListGoes first now → length first ≤ n
-    → ((j : ℕ) (d : ListSeen) → j < n → StartsOn file start (get_or first j d) (get_or now j d)) → Started file rules (lanes_of first) (lanes_of now)
-all_started file rules start n first now is g long goes enough s =
-    let each : EachList (StartsOn file start) first now = λ j d lt. s j d (omega (arith, lt, enough)) in
+pub all_started : (file : List ℕ) (rules : Rules) (n : ℕ) (first now : List ListSeen) → AreGroups (is_apart rules) first → length now ≡ length first → EachList ListGoes first now → length first ≤ n
+    → ((j : ℕ) (d : ListSeen) → j < n → StartsOn file rules.start (get_or first j d) (get_or now j d)) → Started file rules (lanes_of first) (lanes_of now)
+all_started file rules n first now g long goes enough s =
+    let each : EachList (StartsOn file rules.start) first now = λ j d lt. s j d (omega (arith, lt, enough)) in
     record {
       stands = all_flat (Stands file) now (λ j d lt. (each j d (omega (arith, lt, long))).stands);
       come = ap (map come_of) (groups_are file (is_apart rules) now (groups_stay (is_apart rules) first now long goes g))
-          ∙ each_come file start first now long each
-          ∙ ap (λ (o : Option Moment). map (λ rows. from_start o (come_of rows)) (map (rows_in file) first)) (sym is)
+          ∙ each_come file rules.start first now long each
           ∙ ap (map (λ rows. from_start rules.start (come_of rows))) (sym (groups_are file (is_apart rules) first g));
     }
 

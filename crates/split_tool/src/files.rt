@@ -17,7 +17,7 @@ ghost use Rattle.split_tool.specs.Unmaking.{ending_of};
 ghost use Rattle.split_tool.specs.Work.{CanCut};
 
 use crate::front::write_front;
-use crate::lists::{Ends, begin_lists, know_layouts, measure_lists, pack_lists};
+use crate::lists::{Ends, begin_lists, measure_lists, pack_lists};
 use crate::names::{FileName, put_name};
 use crate::splitting::SplitPlan;
 use crate::table::fill_table;
@@ -48,7 +48,6 @@ fn measure_file<F: File>(
     ensures cause { HasCause (F.faults file.old) (F.faults file.new) result }
     ensures keeps { KeepsFile F.File file.old file.new }
 {
-    know_layouts(lists);
     begin_lists(plan, file, lists)?;
     let ends = measure_lists(plan, file, lists)?;
     fill_table(

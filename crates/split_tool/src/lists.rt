@@ -123,15 +123,6 @@ fn measure_list<F: File>(
     Ok(before.and(end, closed))
 }
 
-/// The lanes of each list have its layout: that is so by their type, and a look at them tells it.
-pub(crate) fn know_layouts(lists: &[LaneList])
-    ensures { All HasOwnLayouts lists.now }
-{
-    for i in 0..lists.len() {
-        let _ = lists[i].lanes();
-    }
-}
-
 /// Measures the pieces of a file, list by list.
 ///
 /// # Errors
@@ -170,6 +161,7 @@ pub(crate) fn begin_lists<F: File>(
 ) -> Result<(), Failed>
     requires { AreLists plan.now.rules plan.now.header.now lists.old }
     ensures go { ListsGo F.File file.old file.new lists.old lists.new }
+    ensures layouts { OnOk result (All HasOwnLayouts lists.old) }
     ensures begun { OnOk result (All ListBegun lists.new) }
     ensures told { OnOk result (IfSome (F.bytes file.old) (λ bytes.
         StaysToCome bytes (lanes_of lists.old) (lanes_of lists.new))) }

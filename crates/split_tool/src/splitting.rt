@@ -14,7 +14,7 @@ ghost use Rattle.split_tool.specs.Numbered.{LeavesFiles};
 ghost use Rattle.split_tool.specs.Work.{AreLists, IsWorkFor};
 
 use crate::files::make_file;
-use crate::lists::{Ends, know_layouts};
+use crate::lists::Ends;
 use crate::names::FileName;
 use crate::start::pass_start;
 use crate::work::SplitWork;
@@ -98,7 +98,6 @@ pub fn split<F: File, D: Folder>(
     ensures read { IsErrOf result IoFault.Read → Rose (F.faults file.old) (F.faults file.new) }
     ensures write { IsErrOf result IoFault.Write → Rose (D.counts folder.old).writing (D.counts folder.new).writing }
 {
-    know_layouts(lists);
     let Ok(()) = pass_start(plan, file, lists) else {
         return Err(IoFault::Read);
     };

@@ -7,13 +7,13 @@ ghost use Rattle.time_merge.specs.Reads.{all_unread};
 ghost use Rattle.split_tool.specs.Going.{ListsGo};
 ghost use Rattle.split_tool.specs.Lists.{lanes_of};
 ghost use Rattle.split_tool.specs.Started.{Started};
-ghost use Rattle.split_tool.specs.Work.{AreLists};
+ghost use Rattle.split_tool.specs.Work.{AreLists, HasOwnLayouts};
 
 use crate::splitting::SplitPlan;
 use split_passes::LaneList;
 use trace_outside::{Failed, File};
 
-/// Passes over the items of each list that stand before the start.
+/// Passes over the items of each list that stand before the start, where there is one.
 ///
 /// # Errors
 /// `Failed` where a read failed.
@@ -24,6 +24,7 @@ pub(crate) fn pass_start<F: File>(
 ) -> Result<(), Failed>
     requires { AreLists plan.now.rules plan.now.header.now lists.old }
     ensures go { ListsGo F.File file.old file.new lists.old lists.new }
+    ensures layouts { OnOk result (All HasOwnLayouts lists.old) }
     ensures told { OnOk result (IfSome (F.bytes file.old) (λ bytes. All (Stands bytes) (lanes_of lists.old)
         → Started bytes plan.now.rules (lanes_of lists.old) (lanes_of lists.new))) }
     ensures reads_done { OnOk result (F.reads file.new ≤ raised (F.reads file.old)
@@ -31,11 +32,8 @@ pub(crate) fn pass_start<F: File>(
         - all_unread (F.size file.old) (lanes_of lists.new))) }
     ensures cause { HasCause (F.faults file.old) (F.faults file.new) result }
 {
-    let Some(start) = plan.rules.start else {
-        return Ok(());
-    };
     for i in 0..lists.len() {
-        lists[i].pass_over(file, start)?;
+        lists[i].pass_over(file, plan.rules.start)?;
     }
     Ok(())
 }

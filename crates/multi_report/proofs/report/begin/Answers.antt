@@ -1,7 +1,8 @@
 use Rattle.std.proofs.Common.{◌++◌, ℕ, List, map, subst}
 use Rattle.trace_outside.specs.Pending.{Holds}
 use Rattle.trace_outside.specs.Writing.{GainedPrefix}
-use Rattle.multi_report.specs.Sources.{seen}
+use Rattle.multi_report.specs.Order.{cut_of_files}
+use Rattle.multi_report.specs.Sources.{seen, shown_of}
 use Rattle.multi_report.proofs.Files.{keeps_same}
 use Rattle.multi_report.proofs.Going.{begun_write}
 use Rattle.multi_report.proofs.HeadLines.{heads_text}
@@ -26,7 +27,7 @@ pub returns-in-None-clause-turned : goal.returns-in-None-clause-turned
 returns-in-None-clause-turned g c = λ told.
     let f = seen g.F.File g.L.LineFormat.text in
     let now = c.make_sources_ready.new.sources in
-    underway_first (map f c.args.sources.now) (map f now) c.make_sources_ready.new.nexts (g.O.Sink.written c.args.out.now) (g.O.Sink.written c.put_heads.new.out) c.args.pending.now c.put_heads.new.pending c.know_layouts.ensures c.requires.fresh told c.requires.empty
+    underway_first (map f c.args.sources.now) (map f now) c.make_sources_ready.new.nexts (g.O.Sink.written c.args.out.now) (g.O.Sink.written c.put_heads.new.out) c.args.pending.now c.put_heads.new.pending c.in-None.ensures.layouts c.requires.fresh told c.requires.empty
     (as_long f now c.args.sources.now c.make_sources_ready.ensures.count) c.make_sources_ready.ensures.keeps c.in-None.ensures.keys
     (λ b text held. subst (λ (t : List ℕ). Holds b (g.O.Sink.written c.put_heads.new.out) c.put_heads.new.pending (text ++ t)) (heads_text f c.args.sources.now) (c.in_ok-put_heads.ensures.puts b text held))
 
@@ -40,8 +41,8 @@ pub returns-in_ok-flush-in-Some-clause-turned : goal.returns-in_ok-flush-in-Some
 returns-in_ok-flush-in-Some-clause-turned g c = λ told.
     let f = seen g.F.File g.L.LineFormat.text in
     let now = c.make_sources_ready.new.sources in
-    read_first (map f c.args.sources.now) (map f now) (g.O.Sink.written c.args.out.now) (g.O.Sink.written c.put_heads.new.out) (g.O.Sink.written c.flush.new.out) c.args.pending.now c.put_heads.new.pending c.in-Some.j
-    c.know_layouts.ensures c.requires.fresh told c.requires.empty (as_long f now c.args.sources.now c.make_sources_ready.ensures.count) c.make_sources_ready.ensures.keeps
+    read_first (map f c.args.sources.now) (cut_of_files (map shown_of (map f now))) (g.O.Sink.written c.args.out.now) (g.O.Sink.written c.put_heads.new.out) (g.O.Sink.written c.flush.new.out) c.args.pending.now c.put_heads.new.pending c.in-Some.j
+    c.requires.empty
     (λ b text held. subst (λ (t : List ℕ). Holds b (g.O.Sink.written c.put_heads.new.out) c.put_heads.new.pending (text ++ t)) (heads_text f c.args.sources.now) (c.in_ok-put_heads.ensures.puts b text held))
     c.in_ok-flush-in-Some.ensures.flushes.0
 
@@ -56,7 +57,6 @@ returns-in_err-flush-in-Some-clause-turned g c = λ told.
     let f = seen g.F.File g.L.LineFormat.text in
     let now = c.make_sources_ready.new.sources in
     begun_write _ _ _ c.from_residual-in_err-flush-in-Some.result c.from_residual-in_err-flush-in-Some.ensures.1
-    (first_stopped (map f c.args.sources.now) (map f now) (g.O.Sink.written c.args.out.now) (g.O.Sink.written c.put_heads.new.out) (g.O.Sink.written c.flush.new.out) c.args.pending.now c.put_heads.new.pending
-    c.know_layouts.ensures c.requires.fresh told c.requires.empty (as_long f now c.args.sources.now c.make_sources_ready.ensures.count) c.make_sources_ready.ensures.keeps
+    (first_stopped (map f c.args.sources.now) (g.O.Sink.written c.args.out.now) (g.O.Sink.written c.put_heads.new.out) (g.O.Sink.written c.flush.new.out) c.args.pending.now c.put_heads.new.pending c.requires.empty
     (λ b text held. subst (λ (t : List ℕ). Holds b (g.O.Sink.written c.put_heads.new.out) c.put_heads.new.pending (text ++ t)) (heads_text f c.args.sources.now) (c.in_ok-put_heads.ensures.puts b text held))
     c.in_err-flush-in-Some.ensures.flushes)

@@ -86,7 +86,7 @@ returns-clause-told g c =
     let lists = still_lists rules header ready now go2.long (goes_kept ready now go2.each) (still_lists rules header first ready go.long (goes_kept first ready go.each) c.requires.are) in
     prepared_back header rules first now c.fill_table.new.table _ c.in_ok-ends.ends (g.F.File.bytes c.args.file.now) (take_at c.fill_table.new.table _ work.table.len table_long)
     (prepared_told header rules first ready now c.as_mut_slice.result.now c.fill_table.new.table work.at c.in_ok-ends.ends (g.F.File.bytes c.args.file.now) (g.F.File.bytes c.begin_lists.new.file) go.keeps.bytes
-    c.requires.allowed (own_layouts header.layout first c.requires.are.layouts c.know_layouts.ensures) lists go.long go2.long go.each go2.each c.in_ok-begin_lists.ensures.begun c.in_ok-ends.ensures.done c.requires.lent.at (ap length c.as_mut_slice.ensures.value ∙ c.requires.lent.table)
+    c.requires.allowed (own_layouts header.layout first c.requires.are.layouts c.in_ok-begin_lists.ensures.layouts) lists go.long go2.long go.each go2.each c.in_ok-begin_lists.ensures.begun c.in_ok-ends.ensures.done c.requires.lent.at (ap length c.as_mut_slice.ensures.value ∙ c.requires.lent.table)
     c.fill_table.ensures c.in_ok-begin_lists.ensures.told c.in_ok-ends.ensures.told)
 
 pub returns-clause-reads : goal.returns-clause-reads

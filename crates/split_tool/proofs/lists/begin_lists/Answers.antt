@@ -2,6 +2,7 @@ use Rattle.std.proofs.Common.{rules, refl, arith, ◌<◌, ◌≤◌, length, ge
 use Rattle.event_cursor.proofs.Told.{told_all, told_both, told_map}
 use Rattle.split_passes.proofs.Passing.{ready_done}
 use Rattle.split_tool.specs.Going.{ListBegun}
+use Rattle.split_tool.specs.Work.{HasOwnLayouts}
 use Rattle.split_tool.proofs.Begun.{StaysOn, all_stay, list_begun, loaded_through, stays_here}
 use Rattle.split_tool.proofs.Gone.{first_more, gone_all, gone_more, gone_none, gone_stops}
 use Rattle.split_tool.proofs.lists.begin_lists.Goals as goal
@@ -11,6 +12,7 @@ loop-i-init g c = record {
   gone = gone_none c.args.file.now c.args.lists.now;
   stays = told_all _ (g.F.File.bytes c.args.file.now) (λ file j d lt. absurd (omega (arith, lt)));
   begun = λ j d lt. absurd (omega (arith, lt));
+  own = λ j d lt. absurd (omega (arith, lt));
   faults = refl;
 }
 
@@ -30,6 +32,7 @@ loop-i-preserved g c =
       stays = told_both _ _ _ (g.F.File.bytes c.args.file.now) (λ file p one. first_more (StaysOn file) i c.args.lists.now c.loop-i.lists d new lt gone.others one p)
           c.loop-i.invariant.stays (stays_here (g.F.File.bytes c.args.file.now) (g.F.File.bytes c.loop-i.file) x.all new.all gone.keeps.bytes made.loads.rows made.loads.stands);
       begun = first_more (λ a b. ListBegun b) i c.args.lists.now c.loop-i.lists d new lt gone.others (list_begun new c.in_ok-begin.ensures.begun made.fronts_long made.tallies_long) c.loop-i.invariant.begun;
+      own = first_more (λ a b. HasOwnLayouts a) i c.args.lists.now c.loop-i.lists d new lt gone.others made.layouts c.loop-i.invariant.own;
       faults = c.in_ok-begin.ensures.cause.kept ∙ c.loop-i.invariant.faults;
     }
 
@@ -58,3 +61,8 @@ returns-clause-told g c =
     let over : length c.args.lists.now ≤ c.loop-i.i = search rules in
     told_map _ _ (g.F.File.bytes c.args.file.now) (λ file p. all_stay file c.loop-i.i c.args.lists.now c.loop-i.lists c.loop-i.invariant.gone.long over p)
     c.loop-i.invariant.stays
+
+pub returns-clause-layouts : goal.returns-clause-layouts
+returns-clause-layouts g c =
+    let over : length c.args.lists.now ≤ c.loop-i.i = search rules in
+    λ j d lt. c.loop-i.invariant.own j d (omega (arith, lt, over))

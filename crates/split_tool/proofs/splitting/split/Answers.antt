@@ -34,7 +34,7 @@ loop-number-init g c =
     let now = c.pass_start.new.lists in
     let go = c.pass_start.ensures.go in
     let parts = parts_flat first now go.long go.each in
-    let layouts = own_layouts header.layout first c.requires.lists.layouts c.know_layouts.ensures in
+    let layouts = own_layouts header.layout first c.requires.lists.layouts c.in-Ok.ensures.layouts in
     record {
       cut = record { allowed = c.requires.allowed; are = still_lists rules header first now go.long (goes_kept first now go.each) c.requires.lists; lent = c.requires.work };
       parts = parts;

@@ -1,6 +1,8 @@
 use Rattle.std.proofs.Common.{arith, subst, sym, ◌∙◌}
 use Rattle.std.specs.Result.{OnOk}
+use Rattle.std.specs.List.{All}
 use Rattle.subpage.specs.Arrangement.{CpusRise}
+use Rattle.time_merge.specs.LaneRows.{HasLayout}
 use Rattle.time_merge.specs.Loading.{LoadsLanes}
 use Rattle.time_merge.proofs.Advancing.{same_length}
 use Rattle.split_passes.specs.Begun.{IsBegun}
@@ -29,3 +31,6 @@ returns-clause-begun g c =
     subst (λ (v : ListSeen). OnOk c.begin_in.result (IsBegun (record { layout = c.self.inside.layout; all = c.begin_in.new.pool; fronts = c.begin_in.new.fronts.items; tallies = c.begin_in.new.tallies.items })))
     c.self.view_is
     (on_ok_all c.begin_in.result (λ ready noted none. record { ready = ready; noted = noted; none = none }) c.begin_in.ensures.ready c.begin_in.ensures.noted c.begin_in.ensures.none)
+
+pub returns-clause-layouts : goal.returns-clause-layouts
+returns-clause-layouts g c = subst (λ (v : ListSeen). All (HasLayout v.layout) v.all) c.self.view_is c.self.invariant.layouts

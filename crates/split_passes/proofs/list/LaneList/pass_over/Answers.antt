@@ -1,10 +1,11 @@
-use Rattle.std.proofs.Common.{arith, ◌-◌, ◌≤◌, Some, subst, sym, ◌∙◌}
+use Rattle.std.proofs.Common.{arith, ◌-◌, ◌≤◌, subst, sym, ◌∙◌}
 use Rattle.std.specs.Option.{IfSome}
 use Rattle.std.specs.Result.{OnOk}
 use Rattle.std.specs.List.{All}
 use Rattle.trace_outside.specs.Causes.{raised}
 use Rattle.subpage.specs.Arrangement.{CpusRise}
 use Rattle.event_cursor.specs.Standing.{Stands}
+use Rattle.time_merge.specs.LaneRows.{HasLayout}
 use Rattle.time_merge.specs.Reads.{all_unread}
 use Rattle.time_merge.proofs.Advancing.{same_length}
 use Rattle.split_passes.specs.ListSeen.{ListSeen}
@@ -30,7 +31,7 @@ returns-clause-through g c =
 
 pub returns-clause-told : goal.returns-clause-told
 returns-clause-told g c =
-    subst (λ (v : ListSeen). OnOk c.pass_in.result (IfSome (g.F.File.bytes c.args.file.now) (λ file. All (Stands file) v.all → ListStarted file (Some c.args.start) v.all c.pass_in.new.pool)))
+    subst (λ (v : ListSeen). OnOk c.pass_in.result (IfSome (g.F.File.bytes c.args.file.now) (λ file. All (Stands file) v.all → ListStarted file c.args.start v.all c.pass_in.new.pool)))
     c.self.view_is c.pass_in.ensures.told
 
 pub returns-clause-reads_done : goal.returns-clause-reads_done
@@ -38,3 +39,6 @@ returns-clause-reads_done g c =
     let len = g.F.File.size c.args.file.now in
     subst (λ (v : ListSeen). OnOk c.pass_in.result (g.F.File.reads c.pass_in.new.file ≤ raised (g.F.File.reads c.args.file.now) (all_unread len v.all - all_unread len c.pass_in.new.pool)))
     c.self.view_is c.pass_in.ensures.reads_done
+
+pub returns-clause-layouts : goal.returns-clause-layouts
+returns-clause-layouts g c = subst (λ (v : ListSeen). All (HasLayout v.layout) v.all) c.self.view_is c.self.invariant.layouts
