@@ -21,7 +21,7 @@ pub behind_task : (name pid more : List ℕ) → name ++ (codes "-" ++ (pid ++ m
 behind_task name pid more = sym (append_assoc name (codes "-" ++ pid) more)
 
 -- a task without a name, in columns of the usual widths
-pub unnamed_front : (show : Show) (names : List Pair) (pid : ℤ) (behind : List ℕ) → show.latency ≡ false → task_name names pid ≡ unnamed
+pub unnamed_front : (show : Show) (names : List Pair) (pid : ℤ) (behind : List ℕ) → show.line.latency ≡ false → task_name names pid ≡ unnamed
     → (right 16 unnamed ++ codes "-") ++ (left 5 (signed_decimal pid) ++ behind) ≡ task_front show names pid ++ behind
 unnamed_front show names pid behind usual none =
     let name : right 16 unnamed ≡ task_text show names pid = ap (right 16) (sym none) ∙ ap (λ (narrow : Bool). right (if narrow then 8 else 16) (task_name names pid)) (sym usual) in

@@ -13,7 +13,7 @@ use Rattle.line_fronts.specs.declared.tasks.TaskStart.TheVariants.{Made, Unnamed
 
 -- the task's name
 abbrev pub task_width : Show → ℕ
-task_width show = if show.latency then 8 else 16
+task_width show = if show.line.latency then 8 else 16
 
 abbrev pub task_text : Show → List Pair → ℤ → List ℕ
 task_text show tasks pid = right (task_width show) (task_name tasks pid)

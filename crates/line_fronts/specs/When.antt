@@ -11,12 +11,12 @@ use Rattle.line_fronts.specs.declared.usual.TheConstants.{USUAL_CPUS}
 -- the processor, and with the latency columns what the event says of its context
 unfoldable pub place_text : Show → ℕ → ℕ → ℕ → List ℕ
 place_text show cpu flags preempt_count =
-    if show.latency then codes " " ++ (right 3 (decimal cpu) ++ (latency_marks flags preempt_count ++ codes " "))
+    if show.line.latency then codes " " ++ (right 3 (decimal cpu) ++ (latency_marks flags preempt_count ++ codes " "))
     else codes " [" ++ (zeros 3 (decimal cpu) ++ codes "] ")
 
 -- where and when it was
 abbrev pub when_of : Show → ℕ → ℕ → Common → List ℕ
-when_of show cpu time common = place_text show cpu common.flags common.preempt ++ (time_text show.full time ++ codes ": ")
+when_of show cpu time common = place_text show cpu common.flags common.preempt ++ (time_text show.line.full time ++ codes ": ")
 
 -- the same where the columns have their usual widths: without the latency columns and the last three digits of the time, of a
 -- processor of up to three digits, and before the seconds have six
@@ -24,4 +24,4 @@ abbrev pub usual_when : ℕ → ℕ → List ℕ
 usual_when cpu time = (codes " [" ++ (zeros 3 (decimal cpu) ++ codes "] ")) ++ (time_text false time ++ codes ": ")
 
 abbrev pub IsUsual : Show → ℕ → ℕ → Type 0
-IsUsual show cpu time = (show.latency ≡ false) × (show.full ≡ false) × (cpu < USUAL_CPUS) × (time < USUAL_TIMES)
+IsUsual show cpu time = (show.line.latency ≡ false) × (show.line.full ≡ false) × (cpu < USUAL_CPUS) × (time < USUAL_TIMES)

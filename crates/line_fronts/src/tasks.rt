@@ -47,7 +47,7 @@ pub(crate) fn task_width(show: &Show) -> usize
     ensures value { result ≡ task_width show.now }
     ensures narrow { result ≤ 16 }
 {
-    if show.latency { 8 } else { 16 }
+    if show.line.latency { 8 } else { 16 }
 }
 
 impl TaskFront {

@@ -18,7 +18,7 @@ use trace_base::Common;
 pub fn are_usual(show: &Show, cpu: u32, time: u64) -> bool
     ensures { result ≡ true → IsUsual show.now cpu time }
 {
-    !show.latency && !show.full && cpu < USUAL_CPUS && time < USUAL_TIMES
+    !show.line.latency && !show.line.full && cpu < USUAL_CPUS && time < USUAL_TIMES
 }
 
 /// Puts where and when it was, in columns of their usual widths, in front of a text.
@@ -58,7 +58,7 @@ pub fn put_when(show: &Show, cpu: u32, time: u64, common: &Common, front: &mut F
     ensures longer { length front.new ≤ BEFORE_PID }
 {
     front.prepend_text(b": ");
-    front.prepend_time(show.full, time);
+    front.prepend_time(show.line.full, time);
     put_place(show, cpu, common.flags, common.preempt, front);
 }
 
@@ -69,7 +69,7 @@ fn put_place(show: &Show, cpu: u32, flags: u32, preempt: u32, front: &mut Front)
     ensures longer { length front.new ≤ length front.old + LONGEST_PROCESSOR }
     ensures value { front.new ≡ spec.place_text show.now cpu flags preempt ++ front.old }
 {
-    if show.latency {
+    if show.line.latency {
         front.prepend_latency(cpu, flags, preempt);
     } else {
         front.prepend_processor(cpu);

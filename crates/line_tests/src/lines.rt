@@ -7,6 +7,7 @@ use filter_lang::{FilterFault, parse_filter};
 use filter_truth::FilterUse;
 use format_parse::FormatTable;
 use line_holes::Hole;
+use line_options::LineOptions;
 use report_print::{Context, Show, line, selected};
 use std::alloc::{AllocError, Global};
 use std::process::Abort;
@@ -56,12 +57,14 @@ fn shown(alloc: Global, letters: &[u8]) -> Result<Show, AllocError>
     Ok(Show {
         order: Order::Little,
         long: 8,
-        full: letters.contains(&b't'),
-        diff: letters.contains(&b'd'),
-        latency: letters.contains(&b'l'),
-        raw: letters.contains(&b'R'),
-        no_hard: letters.contains(&b'I'),
-        no_soft: letters.contains(&b'S'),
+        line: LineOptions {
+            full: letters.contains(&b't'),
+            diff: letters.contains(&b'd'),
+            latency: letters.contains(&b'l'),
+            raw: letters.contains(&b'R'),
+            no_hard: letters.contains(&b'I'),
+            no_soft: letters.contains(&b'S'),
+        },
         raw_events: ListOf::from_vec(names),
     })
 }

@@ -28,12 +28,7 @@ abbrev pub show_of : ReportData → Layout → Show
 show_of words layout = record {
   order = layout.order;
   long = layout.commit_size;
-  full = words.line.full;
-  diff = words.line.diff;
-  latency = words.line.latency;
-  raw = words.line.raw;
-  no_hard = words.line.no_hard;
-  no_soft = words.line.no_soft;
+  line = words.line;
   raw_events = words.raw_events;
 }
 

@@ -72,12 +72,7 @@ fn show_by(alloc: Global, words: &ReportWords<'_>, layout: &Layout) -> Result<Sh
     Ok(Show {
         order: layout.order,
         long: layout.commit_size,
-        full: words.line.full,
-        diff: words.line.diff,
-        latency: words.line.latency,
-        raw: words.line.raw,
-        no_hard: words.line.no_hard,
-        no_soft: words.line.no_soft,
+        line: words.line,
         raw_events: texts_of(alloc, &words.raw_events)?,
     })
 }

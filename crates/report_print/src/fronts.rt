@@ -64,9 +64,9 @@ impl Context {
     /// What the latency columns show of an event. Most lines have none, and nothing is read for them.
     #[inline(always)]
     fn shown_marks(&self, payload: &[u8]) -> (u32, u32)
-        ensures { self.now.show.latency ≡ true → (result.0 ≡ line.flags_of self.now payload.now) × (result.1 ≡ line.preempt_count_of self.now payload.now) }
+        ensures { self.now.show.line.latency ≡ true → (result.0 ≡ line.flags_of self.now payload.now) × (result.1 ≡ line.preempt_count_of self.now payload.now) }
     {
-        if self.show().latency {
+        if self.show().line.latency {
             return self.marks(payload);
         }
         (0, 0)

@@ -17,7 +17,7 @@ use Rattle.word_values.specs.CpuList.{cpu_set, cpu_number}
 use Rattle.word_values.specs.Number.{worker_count, seed_number, event_count, piece_count}
 use Rattle.word_values.specs.Moments.{moment_of}
 use Rattle.word_values.specs.Pieces.{piece}
-use Rattle.trace_args.specs.declared.command.LineOptions.{LineOptions}
+use Rattle.line_options.specs.declared.options.LineOptions.{LineOptions}
 use Rattle.trace_args.specs.declared.tool.Tool.{Tool}
 use Rattle.trace_args.specs.declared.tool.Tool.TheVariants as tool
 use Rattle.trace_args.specs.declared.option.FlagOption.TheVariants as flag

@@ -6,7 +6,7 @@ use Rattle.word_values.specs.declared.piece.PieceUnit.{PieceUnit}
 use Rattle.trace_args.specs.declared.command.Command.{Command}
 use Rattle.trace_args.specs.declared.command.Command.TheVariants as code
 use Rattle.trace_args.specs.declared.command.ReportWords.{ReportWords}
-use Rattle.trace_args.specs.declared.command.LineOptions.{LineOptions}
+use Rattle.line_options.specs.declared.options.LineOptions.{LineOptions}
 use Rattle.trace_args.specs.declared.command.FilterWord.{FilterWord}
 use Rattle.trace_args.specs.declared.command.DumpWords.{DumpWords}
 use Rattle.trace_args.specs.declared.command.SelfWords.{SelfWords}

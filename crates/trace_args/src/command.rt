@@ -12,6 +12,7 @@ use crate::given::Given;
 use crate::option::{FlagOption, ValuedOption};
 use crate::tool::Tool;
 use crate::topic::Topic;
+use line_options::LineOptions;
 use std::alloc::{AllocError, Global};
 use word_values::{
     CpuSet, Listing, Moment, PieceOption, PieceUnit, Section, cpu_number, cpu_set, event_count,
@@ -58,23 +59,6 @@ pub struct ReportWords<'a> {
     pub cpus: Option<CpuSet>,
     /// `--workers`: how many threads work, from 1 to 64.
     pub workers: u32,
-}
-
-/// What is shown of each line of a report.
-#[derive(Clone, Copy)]
-pub struct LineOptions {
-    /// `-t`: times are printed to the nanosecond.
-    pub full: bool,
-    /// `--ts-diff`: the difference to the last shown event is printed after each time.
-    pub diff: bool,
-    /// `-l`: the latency columns are printed.
-    pub latency: bool,
-    /// `-R`: all fields of all events are printed as they are.
-    pub raw: bool,
-    /// `-I`: events in a hard interrupt are hidden.
-    pub no_hard: bool,
-    /// `-S`: events in a soft interrupt are hidden.
-    pub no_soft: bool,
 }
 
 /// A filter of `report`.
@@ -191,7 +175,7 @@ impl<'a> ReportWords<'a> {
             input: first_input(given),
             more,
             filters,
-            line: LineOptions::asked(given),
+            line: line(given),
             raw_events,
             calls: given.is_set(FlagOption::Calls),
             list: listing(given),
@@ -202,18 +186,16 @@ impl<'a> ReportWords<'a> {
     }
 }
 
-impl LineOptions {
-    fn asked(given: &Given<'_>) -> LineOptions
-        ensures { result ≡ line_options_of (given_view given.now) }
-    {
-        LineOptions {
-            full: given.is_set(FlagOption::FullTime),
-            diff: given.is_set(FlagOption::Differences),
-            latency: given.is_set(FlagOption::Latency),
-            raw: given.is_set(FlagOption::Raw),
-            no_hard: given.is_set(FlagOption::NoHard),
-            no_soft: given.is_set(FlagOption::NoSoft),
-        }
+fn line(given: &Given<'_>) -> LineOptions
+    ensures { result ≡ line_options_of (given_view given.now) }
+{
+    LineOptions {
+        full: given.is_set(FlagOption::FullTime),
+        diff: given.is_set(FlagOption::Differences),
+        latency: given.is_set(FlagOption::Latency),
+        raw: given.is_set(FlagOption::Raw),
+        no_hard: given.is_set(FlagOption::NoHard),
+        no_soft: given.is_set(FlagOption::NoSoft),
     }
 }
 

@@ -4,7 +4,7 @@
 use Rattle.std.specs.Prelude.{None, ℕ, false, List, []}
 use Rattle.std.specs.List.{enumerate_from}
 use Rattle.subpage.specs.Arrangement.{Keyed, arranged}
-use Rattle.trace_args.specs.declared.command.LineOptions.{LineOptions}
+use Rattle.line_options.specs.declared.options.LineOptions.{LineOptions}
 use Rattle.trace_args.specs.Command.{ReportData, SelfData}
 use Rattle.trace_gen.specs.Generated.{lists_of}
 use Rattle.trace_gen.specs.GeneratedHeader.{header_but_parts}

@@ -10,10 +10,11 @@ ghost use Rattle.trace_run.specs.Selftest.{generated_report, plain_report, self_
 
 use dat_header::read_header;
 use file_report::{ReportPlan, print_report};
+use line_options::LineOptions;
 use run_endings::{Resources, Status};
 use std::alloc::{AllocError, Global};
 use std::thread::Threads;
-use trace_args::{LineOptions, ReportWords, SelfWords};
+use trace_args::{ReportWords, SelfWords};
 use trace_base::ByteText;
 use trace_gen::{generate, summary_line};
 use trace_outside::{Failed, Gate, MemSink, Sink, write_all};

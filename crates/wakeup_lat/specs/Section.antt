@@ -38,4 +38,4 @@ abbrev pub section_by : (Pair → List ℕ) → Bool → List Pair → List ℕ
 section_by line full pairs = count_line (length pairs) ++ (flat_map line pairs ++ figures full pairs)
 
 abbrev pub section : ContextData → List Pair → List ℕ
-section given pairs = section_by (pair_line given) given.show.full pairs
+section given pairs = section_by (pair_line given) given.show.line.full pairs

@@ -28,7 +28,7 @@ pub fn put_wakeups<O: Sink>(
 {
     put_section(
         context,
-        context.show().full,
+        context.show().line.full,
         wakeups.pairs(),
         buffer,
         pending,

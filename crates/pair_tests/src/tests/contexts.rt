@@ -1,6 +1,7 @@
 // What lines are printed with.
 
 use format_parse::FormatTable;
+use line_options::LineOptions;
 use report_print::{Context, Show};
 use std::alloc::{AllocError, Global};
 use symbols::Symbols;
@@ -23,12 +24,14 @@ pub(crate) fn context_of(
     let show = Show {
         order: Order::Little,
         long: 8,
-        full: all,
-        diff: false,
-        latency: all,
-        raw: false,
-        no_hard: false,
-        no_soft: false,
+        line: LineOptions {
+            full: all,
+            diff: false,
+            latency: all,
+            raw: false,
+            no_hard: false,
+            no_soft: false,
+        },
         raw_events: ListOf::from_vec(Vec::new(alloc)),
     };
     Context::build(alloc, formats, symbols, Vec::new(alloc), show)
