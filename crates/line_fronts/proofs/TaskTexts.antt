@@ -10,7 +10,7 @@ use Rattle.symbols.specs.Maps.{task_name, unnamed}
 use Rattle.line_columns.specs.Columns.{right, left}
 use Rattle.line_fronts.specs.declared.show.Show.{Show}
 use Rattle.line_fronts.specs.declared.tasks.TaskFront.{TaskFront}
-use Rattle.line_fronts.specs.Tasks.{task_text, task_front, text_of, front_of, IsFront, AreFronts}
+use Rattle.line_fronts.specs.Tasks.{task_front, task_width, text_of, front_of, IsFront, AreFronts}
 
 -- a name that is wider than its column
 pub wide_task : (width : ℕ) (name : List ℕ) → width ≤ length name → name ≡ right width name
@@ -24,7 +24,7 @@ behind_task name pid more = sym (append_assoc name (codes "-" ++ pid) more)
 pub unnamed_front : (show : Show) (names : List Pair) (pid : ℤ) (behind : List ℕ) → show.line.latency ≡ false → task_name names pid ≡ unnamed
     → (right 16 unnamed ++ codes "-") ++ (left 5 (signed_decimal pid) ++ behind) ≡ task_front show names pid ++ behind
 unnamed_front show names pid behind usual none =
-    let name : right 16 unnamed ≡ task_text show names pid = ap (right 16) (sym none) ∙ ap (λ (narrow : Bool). right (if narrow then 8 else 16) (task_name names pid)) (sym usual) in
+    let name : right 16 unnamed ≡ right (task_width show) (task_name names pid) = ap (right 16) (sym none) ∙ ap (λ (narrow : Bool). right (if narrow then 8 else 16) (task_name names pid)) (sym usual) in
     append_assoc (right 16 unnamed) (codes "-") (left 5 (signed_decimal pid) ++ behind)
     ∙ behind_task (right 16 unnamed) (left 5 (signed_decimal pid)) behind
     ∙ ap (λ (task : List ℕ). (task ++ (codes "-" ++ left 5 (signed_decimal pid))) ++ behind) name

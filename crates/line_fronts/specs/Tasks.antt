@@ -11,12 +11,9 @@ use Rattle.line_fronts.specs.declared.tasks.TaskFronts.{TaskFronts}
 use Rattle.line_fronts.specs.declared.tasks.TaskStart.{TaskStart}
 use Rattle.line_fronts.specs.declared.tasks.TaskStart.TheVariants.{Made, Unnamed, Unknown}
 
--- the task's name
+-- how wide the column of its name is
 abbrev pub task_width : Show → ℕ
 task_width show = if show.line.latency then 8 else 16
-
-abbrev pub task_text : Show → List Pair → ℤ → List ℕ
-task_text show tasks pid = right (task_width show) (task_name tasks pid)
 
 -- its name at the right of its column, a dash, and its pid at the left of its own
 abbrev pub named_front : Show → List ℕ → ℤ → List ℕ
