@@ -1,8 +1,8 @@
 -- The file that a restore names.
-use Rattle.std.proofs.Common.{◌≡◌, ◌<◌, ◌≤◌, ◌∙◌, ℕ, suc, List, ◌∷◌, length, get_or, map, refl, sym, ap, subst, arith}
+use Rattle.std.proofs.Common.{◌≡◌, ◌<◌, ◌≤◌, ◌∙◌, ℕ, suc, List, ◌∷◌, length, get_or, map, Result, Ok, Err, refl, sym, ap, subst, arith}
 use Rattle.std.proofs.lemmas.List.{get_or-map}
-use Rattle.restore_tool.specs.declared.named.Answer.{Answer}
-use Rattle.restore_tool.specs.declared.named.Answer.TheVariants as code
+use Rattle.restore_tool.specs.declared.named.RestoreFault.{RestoreFault}
+use Rattle.restore_tool.specs.declared.named.RestoreFault.TheVariants as code
 use Rattle.restore_tool.specs.Failing.{IfRead, IsUnread, place_of}
 use Rattle.trace_args.specs.Command.{RestoreData}
 use Rattle.run_endings.specs.declared.status.Status.{Status}
@@ -22,17 +22,17 @@ data_at name_of input names i name lt is d = get_or-map name_of names i name d l
 pub past_data : (words : RestoreData) (place : ℕ) → length words.files ≤ place → IsNameAt words (suc place) words.input
 past_data words place past = record { one = (input_at words).one; there = λ inside d. absurd (omega (arith, inside, past)) }
 
--- the file that an answer tells is the one that is named
-pub restore_named : (words : RestoreData) (answer : Answer) (status : Status) (name : List ℕ) (before now : FolderSeen) → status ≡ status_of_restore answer
-    → IfRead answer (λ source. IsUnread before.files (restore_inputs words) before.counts.misses now.counts.misses (place_of source))
-    → IsNameOf words answer name → IsRestoreNamed words status before now name
-restore_named words answer status name before now told unread named =
-    subst (λ (s : Status). IsRestoreNamed words s before now name) (sym told) (by_answer answer unread named)
+-- the file that a fault tells is the one that is named
+pub restore_named : (words : RestoreData) (result : Result Unit RestoreFault) (status : Status) (name : List ℕ) (before now : FolderSeen) → status ≡ status_of_restore result
+    → IfRead result (λ source. IsUnread before.files (restore_inputs words) before.counts.misses now.counts.misses (place_of source))
+    → IsNameOf words result name → IsRestoreNamed words status before now name
+restore_named words result status name before now told unread named =
+    subst (λ (s : Status). IsRestoreNamed words s before now name) (sym told) (by_result result unread named)
   where
-    by_answer : (a : Answer) → IfRead a (λ source. IsUnread before.files (restore_inputs words) before.counts.misses now.counts.misses (place_of source))
+    by_result : (a : Result Unit RestoreFault) → IfRead a (λ source. IsUnread before.files (restore_inputs words) before.counts.misses now.counts.misses (place_of source))
         → IsNameOf words a name → IsRestoreNamed words (status_of_restore a) before now name
-    by_answer code.Done unread named = named
-    by_answer (code.Refused fault) unread named = named
-    by_answer (code.Read source) unread named = record { place = place_of source; name_is = named; unread = unread }
-    by_answer code.Write unread named = named
-    by_answer code.NoMemory unread named = named
+    by_result (Ok done) unread named = named
+    by_result (Err (code.Refused fault)) unread named = named
+    by_result (Err (code.Read source)) unread named = record { place = place_of source; name_is = named; unread = unread }
+    by_result (Err code.Write) unread named = named
+    by_result (Err code.NoMemory) unread named = named

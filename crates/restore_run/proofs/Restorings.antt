@@ -1,5 +1,5 @@
 -- All that is said of a run that is a restore.
-use Rattle.std.proofs.Common.{◌≡◌, ◌≢◌, ◌≤◌, ◌+◌, ◌∙◌, ℕ, List, [], ◌∷◌, length, Option, None, Some, IfSome, inl, inr, refl, sym, subst, arith}
+use Rattle.std.proofs.Common.{◌≡◌, ◌≢◌, ◌≤◌, ◌+◌, ◌∙◌, ℕ, List, [], ◌∷◌, length, Option, None, Some, Result, Ok, Err, IfSome, inl, inr, refl, sym, subst, arith}
 use Rattle.std.specs.Option.{IsSomeAnd, option_map}
 use Rattle.trace_outside.specs.Causes.{Rose, raised}
 use Rattle.trace_outside.specs.Memory.{KeepsFaults}
@@ -8,8 +8,8 @@ use Rattle.trace_outside.proofs.Gains.{gained_nothing}
 use Rattle.new_files.specs.Requested.{AskedFirst}
 use Rattle.new_files.specs.Stored.{FilesStored, FirstFilesStored, IsUnmade, NewFile}
 use Rattle.dat_options.specs.declared.fault.OpenFault.{OpenFault}
-use Rattle.restore_tool.specs.declared.named.Answer.{Answer}
-use Rattle.restore_tool.specs.declared.named.Answer.TheVariants as code
+use Rattle.restore_tool.specs.declared.named.RestoreFault.{RestoreFault}
+use Rattle.restore_tool.specs.declared.named.RestoreFault.TheVariants as code
 use Rattle.restore_tool.specs.Answers as tool
 use Rattle.restore_tool.specs.Answers.{Causes, ClosesAll, Created, IfMade, KeepsFiles}
 use Rattle.restore_tool.specs.Asked.{AsksFor}
@@ -29,7 +29,7 @@ use Rattle.run_endings.proofs.Requesting.{asked_few}
 
 module _ (output : List ℕ) (named : NamedFiles) (before now : FolderSeen) (out : SinkSeen) (is : before.files ≡ Some named) where
   -- the new file stands
-  done_ends : (task : Task) → Created code.Done before.counts.created now.counts.created → IsDone task output before.counts now.counts named now.files code.Done
+  done_ends : (task : Task) → Created (Ok tt) before.counts.created now.counts.created → IsDone task output before.counts now.counts named now.files (Ok tt)
       → Ends (task_means task) Done (beside before out) (beside now out)
   done_ends missing created done = absurd done
   done_ends (refused fault) created done = absurd done
@@ -94,21 +94,21 @@ module _ (output : List ℕ) (named : NamedFiles) (before now : FolderSeen) (out
   unheld_ends : (task : Task) → now.counts.created ≡ before.counts.created → now.files ≡ Some named → Ends (task_means task) NoMemory (beside before out) (beside now out)
   unheld_ends task created files = record { output = refl; files = files ∙ sym is; created = created }
 
-  task_ends : (answer : Answer) (task : Task) → Created answer before.counts.created now.counts.created → IsDone task output before.counts now.counts named now.files answer
-      → Ends (task_means task) (status_of_restore answer) (beside before out) (beside now out)
-  task_ends code.Done task created done = done_ends task created done
-  task_ends (code.Refused fault) task created done = refused_ends task fault created done.0 done.1
-  task_ends (code.Read source) task created done = read_ends task done.0 done.1
-  task_ends code.Write task created done = write_ends task created done.0 done.1
-  task_ends code.NoMemory task created done = unheld_ends task created done
+  task_ends : (result : Result Unit RestoreFault) (task : Task) → Created result before.counts.created now.counts.created → IsDone task output before.counts now.counts named now.files result
+      → Ends (task_means task) (status_of_restore result) (beside before out) (beside now out)
+  task_ends (Ok value) task created done = done_ends task created done
+  task_ends (Err (code.Refused fault)) task created done = refused_ends task fault created done.0 done.1
+  task_ends (Err (code.Read source)) task created done = read_ends task done.0 done.1
+  task_ends (Err code.Write) task created done = write_ends task created done.0 done.1
+  task_ends (Err code.NoMemory) task created done = unheld_ends task created done
 
 -- after a fault of reading all files are as they were
-as_before : (answer : Answer) {told now : Option NamedFiles} → KeepsFiles answer told now → status_of_restore answer ≡ ReadFault → now ≡ told
-as_before code.Done kept unread = absurd cc
-as_before (code.Refused fault) kept unread = absurd cc
-as_before (code.Read source) kept unread = kept
-as_before code.Write kept unread = absurd cc
-as_before code.NoMemory kept unread = absurd cc
+as_before : (result : Result Unit RestoreFault) {told now : Option NamedFiles} → KeepsFiles result told now → status_of_restore result ≡ ReadFault → now ≡ told
+as_before (Ok done) kept unread = absurd cc
+as_before (Err (code.Refused fault)) kept unread = absurd cc
+as_before (Err (code.Read source)) kept unread = kept
+as_before (Err code.Write) kept unread = absurd cc
+as_before (Err code.NoMemory) kept unread = absurd cc
 
 task_misses : (task : Task) (before now : ℕ) → (task ≢ missing → now ≡ before) → (task_means task).status ≢ ReadFault → now ≡ before
 task_misses missing before now some other = absurd (other refl)
@@ -116,45 +116,45 @@ task_misses (refused fault) before now some other = some (λ is. cc)
 task_misses (made file) before now some other = some (λ is. cc)
 
 -- the first few of the names were asked for, or all
-asked_by : (answer : Answer) (names before now : List (List ℕ)) → AsksFor names before now answer → AskedFirst names before now
-asked_by code.Done names before now asked = asked_few names before now asked
-asked_by (code.Refused fault) names before now asked = asked
-asked_by (code.Read source) names before now asked = asked
-asked_by code.Write names before now asked = asked_few names before now asked
-asked_by code.NoMemory names before now asked = asked
+asked_by : (result : Result Unit RestoreFault) (names before now : List (List ℕ)) → AsksFor names before now result → AskedFirst names before now
+asked_by (Ok done) names before now asked = asked_few names before now asked
+asked_by (Err (code.Refused fault)) names before now asked = asked
+asked_by (Err (code.Read source)) names before now asked = asked
+asked_by (Err code.Write) names before now asked = asked_few names before now asked
+asked_by (Err code.NoMemory) names before now asked = asked
 
 -- what holds where the new file was finished, or could not be made
-made_behind : (claim : Type 0) (answer : Answer) → IfMade answer claim → BehindHeader (status_of_restore answer) claim
-made_behind claim code.Done holds = holds
-made_behind claim (code.Refused fault) holds = tt
-made_behind claim (code.Read source) holds = tt
-made_behind claim code.Write holds = holds
-made_behind claim code.NoMemory holds = tt
+made_behind : (claim : Type 0) (result : Result Unit RestoreFault) → IfMade result claim → BehindHeader (status_of_restore result) claim
+made_behind claim (Ok done) holds = holds
+made_behind claim (Err (code.Refused fault)) holds = tt
+made_behind claim (Err (code.Read source)) holds = tt
+made_behind claim (Err code.Write) holds = holds
+made_behind claim (Err code.NoMemory) holds = tt
 
 -- what a restoring by names promises is what a run of it promises
-pub restored_ran : (words : RestoreData) (answer : Answer) (status : Status) (out : SinkSeen) (before now : FolderSeen) → status ≡ status_of_restore answer
-    → IfSome before.files (λ named. IsDone (task_of named (names_of words)) words.output before.counts now.counts named now.files answer)
-    → Causes answer (Rose before.counts.reading now.counts.reading) (Rose before.counts.writing now.counts.writing)
-    → KeepsFiles answer before.files now.files
-    → Created answer before.counts.created now.counts.created
+pub restored_ran : (words : RestoreData) (result : Result Unit RestoreFault) (status : Status) (out : SinkSeen) (before now : FolderSeen) → status ≡ status_of_restore result
+    → IfSome before.files (λ named. IsDone (task_of named (names_of words)) words.output before.counts now.counts named now.files result)
+    → Causes result (Rose before.counts.reading now.counts.reading) (Rose before.counts.writing now.counts.writing)
+    → KeepsFiles result before.files now.files
+    → Created result before.counts.created now.counts.created
     → IfSome before.files (λ named. task_of named (names_of words) ≢ missing → now.counts.misses ≡ before.counts.misses)
-    → AsksFor (restore_asks words) before.requested now.requested answer
-    → tool.IfNoMemory answer (KeepsFaults before.counts now.counts)
-    → IfMade answer (IfSome before.files (λ named. RestoreReads words named before.counts.bytes now.counts.bytes))
+    → AsksFor (restore_asks words) before.requested now.requested result
+    → tool.IfNoMemory result (KeepsFaults before.counts now.counts)
+    → IfMade result (IfSome before.files (λ named. RestoreReads words named before.counts.bytes now.counts.bytes))
     → ClosesAll (length words.files + 1) before.counts now.counts
     → RestoreRan words status (beside before out) (beside now out)
-restored_ran words answer status out before now told done causes kept created misses asks memory reads counts =
+restored_ran words result status out before now told done causes kept created misses asks memory reads counts =
     subst (λ (s : Status). RestoreRan words s (beside before out) (beside now out)) (sym told) (record {
       ran = record {
         ended = ended;
-        complete = ended_complete on_folder unread means (status_of_restore answer) (beside before out) (beside now out) ended;
+        complete = ended_complete on_folder unread means (status_of_restore result) (beside before out) (beside now out) ended;
         misses = missed before.files misses;
         closes = λ opened closed. omega (arith, counts.opened, counts.closed);
         opens = omega (arith, counts.opened, counts.few);
       };
-      requested = asked_by answer (restore_asks words) before.requested now.requested asks;
-      reads = made_behind _ answer reads;
-      usage = (not_usage on_folder unread (status_of_restore answer) (beside before out) (beside now out) (λ unasked. unasked) ended.causes, refl, as_before answer kept);
+      requested = asked_by result (restore_asks words) before.requested now.requested asks;
+      reads = made_behind _ result reads;
+      usage = (not_usage on_folder unread (status_of_restore result) (beside before out) (beside now out) (λ unasked. unasked) ended.causes, refl, as_before result kept);
     })
   where
     unread : Type 0
@@ -163,35 +163,35 @@ restored_ran words answer status out before now told done causes kept created mi
     means : Option Meaning
     means = option_map (restore_meaning words) before.files
 
-    ends : (known : Option NamedFiles) → before.files ≡ known → IfSome known (λ named. IsDone (task_of named (names_of words)) words.output before.counts now.counts named now.files answer)
-        → IfSome (option_map (restore_meaning words) known) (λ m. Ends m (status_of_restore answer) (beside before out) (beside now out))
+    ends : (known : Option NamedFiles) → before.files ≡ known → IfSome known (λ named. IsDone (task_of named (names_of words)) words.output before.counts now.counts named now.files result)
+        → IfSome (option_map (restore_meaning words) known) (λ m. Ends m (status_of_restore result) (beside before out) (beside now out))
     ends None is done = tt
-    ends (Some named) is done = task_ends words.output named before now out is answer (task_of named (names_of words)) created done
+    ends (Some named) is done = task_ends words.output named before now out is result (task_of named (names_of words)) created done
 
-    leaves : (a : Answer) → KeepsFiles a before.files now.files → Created a before.counts.created now.counts.created → LeavesAll (status_of_restore a) (beside before out) (beside now out)
-    leaves code.Done kept created = tt
-    leaves (code.Refused fault) kept created = record { output = refl; files = kept; created = created }
-    leaves (code.Read source) kept created = tt
-    leaves code.Write kept created = tt
-    leaves code.NoMemory kept created = record { output = refl; files = kept; created = created }
+    leaves : (a : Result Unit RestoreFault) → KeepsFiles a before.files now.files → Created a before.counts.created now.counts.created → LeavesAll (status_of_restore a) (beside before out) (beside now out)
+    leaves (Ok done) kept created = tt
+    leaves (Err (code.Refused fault)) kept created = record { output = refl; files = kept; created = created }
+    leaves (Err (code.Read source)) kept created = tt
+    leaves (Err code.Write) kept created = tt
+    leaves (Err code.NoMemory) kept created = record { output = refl; files = kept; created = created }
 
-    caused : (a : Answer) → Causes a (Rose before.counts.reading now.counts.reading) (Rose before.counts.writing now.counts.writing)
+    caused : (a : Result Unit RestoreFault) → Causes a (Rose before.counts.reading now.counts.reading) (Rose before.counts.writing now.counts.writing)
         → IsCaused on_folder (Rose before.counts.reading now.counts.reading) (status_of_restore a) (beside before out) (beside now out)
-    caused code.Done cause = tt
-    caused (code.Refused fault) cause = cause
-    caused (code.Read source) cause = cause
-    caused code.Write cause = cause
-    caused code.NoMemory cause = tt
+    caused (Ok done) cause = tt
+    caused (Err (code.Refused fault)) cause = cause
+    caused (Err (code.Read source)) cause = cause
+    caused (Err code.Write) cause = cause
+    caused (Err code.NoMemory) cause = tt
 
-    faultless : (a : Answer) → tool.IfNoMemory a (KeepsFaults before.counts now.counts) → IfNoMemory (status_of_restore a) (CountsNoFault (beside before out) (beside now out))
-    faultless code.Done same = tt
-    faultless (code.Refused fault) same = tt
-    faultless (code.Read source) same = tt
-    faultless code.Write same = tt
-    faultless code.NoMemory same = record { folder = same; out = refl }
+    faultless : (a : Result Unit RestoreFault) → tool.IfNoMemory a (KeepsFaults before.counts now.counts) → IfNoMemory (status_of_restore a) (CountsNoFault (beside before out) (beside now out))
+    faultless (Ok done) same = tt
+    faultless (Err (code.Refused fault)) same = tt
+    faultless (Err (code.Read source)) same = tt
+    faultless (Err code.Write) same = tt
+    faultless (Err code.NoMemory) same = record { folder = same; out = refl }
 
-    ended : Ended on_folder (Rose before.counts.reading now.counts.reading) (option_map (restore_meaning words) before.files) (status_of_restore answer) (beside before out) (beside now out)
-    ended = record { ends = ends before.files refl done; untouched = leaves answer kept created; causes = caused answer causes; kept = faultless answer memory }
+    ended : Ended on_folder (Rose before.counts.reading now.counts.reading) (option_map (restore_meaning words) before.files) (status_of_restore result) (beside before out) (beside now out)
+    ended = record { ends = ends before.files refl done; untouched = leaves result kept created; causes = caused result causes; kept = faultless result memory }
 
     missed : (known : Option NamedFiles) → IfSome known (λ named. task_of named (names_of words) ≢ missing → now.counts.misses ≡ before.counts.misses)
         → IfSome (option_map (restore_meaning words) known) (λ m. MissesNothingElse m before.counts now.counts)

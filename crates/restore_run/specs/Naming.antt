@@ -1,7 +1,7 @@
 -- Which file the message about a restore names.
-use Rattle.std.specs.Prelude.{◌≡◌, ◌<◌, Contains, ℕ, List, length, slice_index_or}
-use Rattle.restore_tool.specs.declared.named.Answer.{Answer}
-use Rattle.restore_tool.specs.declared.named.Answer.TheVariants as answer
+use Rattle.std.specs.Prelude.{Result, Err, ◌≡◌, ◌<◌, Contains, ℕ, List, length, slice_index_or}
+use Rattle.restore_tool.specs.declared.named.RestoreFault.{RestoreFault}
+use Rattle.restore_tool.specs.declared.named.RestoreFault.TheVariants as code
 use Rattle.restore_tool.specs.Failing.{IsUnread, inputs_of, place_of}
 use Rattle.trace_args.specs.Command.{RestoreData}
 use Rattle.run_endings.specs.declared.status.Status.{Status}
@@ -24,9 +24,9 @@ pub record IsUnreadName (words : RestoreData) (before now : FolderSeen) (name : 
   pub name_is : IsNameAt words place name
   pub unread : IsUnread before.files (restore_inputs words) before.counts.misses now.counts.misses place
 
--- the file that an answer tells, or else the partial one
-abbrev pub IsNameOf : RestoreData → Answer → List ℕ → Type 0
-IsNameOf words (answer.Read source) name = IsNameAt words (place_of source) name
+-- the file that a fault tells, or else the partial one
+abbrev pub IsNameOf : RestoreData → Result Unit RestoreFault → List ℕ → Type 0
+IsNameOf words (Err (code.Read source)) name = IsNameAt words (place_of source) name
 IsNameOf words other name = name ≡ words.input
 
 -- the file that the message of a restore names: after a fault of reading the one that it could not read

@@ -1,9 +1,9 @@
 -- How a run ends that is a restore.
 use Rattle.run_endings.specs.declared.status.Status.{Status}
 use Rattle.run_endings.specs.declared.status.Status.TheVariants.{Done, Refused, ReadFault, WriteFault, NoMemory}
-use Rattle.restore_tool.specs.declared.named.Answer.{Answer}
-use Rattle.restore_tool.specs.declared.named.Answer.TheVariants as code
-use Rattle.std.specs.Prelude.{ℕ, List, [], ◌∷◌}
+use Rattle.restore_tool.specs.declared.named.RestoreFault.{RestoreFault}
+use Rattle.restore_tool.specs.declared.named.RestoreFault.TheVariants as code
+use Rattle.std.specs.Prelude.{Result, Ok, Err, ℕ, List, [], ◌∷◌}
 use Rattle.trace_outside.specs.Names.{NamedFiles}
 use Rattle.trace_args.specs.Command.{RestoreData}
 use Rattle.restore_tool.specs.Asked.{asked_of}
@@ -11,12 +11,12 @@ use Rattle.restore_tool.specs.Reads.{ReadsOnce}
 use Rattle.restore_tool.specs.Meaning.{NamesData, Task, missing, refused, made, task_of}
 use Rattle.run_endings.specs.Meaning.{Meaning, only}
 
-abbrev pub status_of_restore : Answer → Status
-status_of_restore code.Done = Done
-status_of_restore (code.Refused fault) = Refused fault
-status_of_restore (code.Read source) = ReadFault
-status_of_restore code.Write = WriteFault
-status_of_restore code.NoMemory = NoMemory
+abbrev pub status_of_restore : Result Unit RestoreFault → Status
+status_of_restore (Ok done) = Done
+status_of_restore (Err (code.Refused fault)) = Refused fault
+status_of_restore (Err (code.Read source)) = ReadFault
+status_of_restore (Err code.Write) = WriteFault
+status_of_restore (Err code.NoMemory) = NoMemory
 
 -- nothing is printed: one file is made, unless a file is missing or the partial one has no header
 abbrev pub task_means : Task → Meaning

@@ -8,7 +8,7 @@ ghost use Rattle.run_endings.specs.Outside.{SinkSeen, beside, folder_seen};
 ghost use Rattle.restore_run.specs.Ran.{RestoreRan};
 ghost use Rattle.restore_run.specs.Restore.{status_of_restore};
 
-use restore_tool::{Answer, Names, Source, restore_named};
+use restore_tool::{Names, RestoreFault, Source, restore_named};
 use run_endings::{JobEnd, Status};
 use std::alloc::Global;
 use trace_args::RestoreWords;
@@ -31,31 +31,31 @@ pub fn restore_files<'a, F: Folder>(
         files: words.files.as_slice(),
         output: words.output,
     };
-    let answer = restore_named(alloc, &names, folder);
+    let restored = restore_named(alloc, &names, folder);
     JobEnd {
-        status: status_of_restore(answer),
-        file: file_of(words, answer),
+        status: status_of_restore(restored),
+        file: file_of(words, restored),
     }
 }
 
-fn status_of_restore(answer: Answer) -> Status
-    ensures { result ≡ status_of_restore answer }
+fn status_of_restore(restored: Result<(), RestoreFault>) -> Status
+    ensures { result ≡ status_of_restore restored }
 {
-    match answer {
-        Answer::Done => Status::Done,
-        Answer::Refused(fault) => Status::Refused(fault),
-        Answer::Read(_) => Status::ReadFault,
-        Answer::Write => Status::WriteFault,
-        Answer::NoMemory => Status::NoMemory,
+    match restored {
+        Ok(()) => Status::Done,
+        Err(RestoreFault::Refused(fault)) => Status::Refused(fault),
+        Err(RestoreFault::Read(_)) => Status::ReadFault,
+        Err(RestoreFault::Write) => Status::WriteFault,
+        Err(RestoreFault::NoMemory) => Status::NoMemory,
     }
 }
 
-// The file that the message of an answer names.
-fn file_of<'a>(words: &RestoreWords<'a>, answer: Answer) -> &'a str
-    ensures { IsNameOf (restore_view words.now) answer result.now }
+// The file that the message names.
+fn file_of<'a>(words: &RestoreWords<'a>, restored: Result<(), RestoreFault>) -> &'a str
+    ensures { IsNameOf (restore_view words.now) restored result.now }
 {
-    match answer {
-        Answer::Read(source) => source_name(words, source),
+    match restored {
+        Err(RestoreFault::Read(source)) => source_name(words, source),
         _ => words.input,
     }
 }

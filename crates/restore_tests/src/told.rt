@@ -3,11 +3,14 @@
 ghost use Rattle.std.specs.Prelude.{◌≡◌, IfOk, vec_len};
 
 use dat_header::{Body, OpenFault, read_header};
-use restore_tool::{Answer, Names, Source, restore_named};
+use restore_tool::{Names, RestoreFault, Source, restore_named};
 use std::alloc::{AllocError, Global};
 use trace_base::{ByteText, Part};
 use trace_outside::{MemFault, MemFile, MemFolder};
 use trace_samples::{ONE_EVENT, TraceFile};
+
+/// What came of a restoring.
+type Restored = Result<(), RestoreFault>;
 
 /// More bytes than any call has.
 pub(crate) const ALL: u32 = u32::MAX;
@@ -50,7 +53,7 @@ pub(crate) struct Row {
     pub(crate) partial: Partial,
     pub(crate) files: &'static [(&'static str, Data)],
     pub(crate) output: &'static str,
-    /// The answer, and after it the new file: its length and its parts.
+    /// What came of it, and after that the new file: its length and its parts.
     pub(crate) told: &'static str,
 }
 
@@ -115,15 +118,21 @@ fn data_bytes(alloc: Global, data: Data) -> Result<Vec<u8>, AllocError> {
     Ok(bytes)
 }
 
-fn put_answer(text: &mut String, answer: Answer) -> Result<(), AllocError> {
-    match answer {
-        Answer::Done => text.push_str("done"),
-        Answer::Refused(OpenFault::Truncated(place)) => write!(text, "truncated {place}"),
-        Answer::Refused(_) => text.push_str("refused"),
-        Answer::Read(Source::Partial) => text.push_str("read partial"),
-        Answer::Read(Source::File(file)) => write!(text, "read {file}"),
-        Answer::Write => text.push_str("write"),
-        Answer::NoMemory => text.push_str("no memory"),
+fn put_fault(text: &mut String, fault: RestoreFault) -> Result<(), AllocError> {
+    match fault {
+        RestoreFault::Refused(OpenFault::Truncated(place)) => write!(text, "truncated {place}"),
+        RestoreFault::Refused(_) => text.push_str("refused"),
+        RestoreFault::Read(Source::Partial) => text.push_str("read partial"),
+        RestoreFault::Read(Source::File(file)) => write!(text, "read {file}"),
+        RestoreFault::Write => text.push_str("write"),
+        RestoreFault::NoMemory => text.push_str("no memory"),
+    }
+}
+
+fn put_restored(text: &mut String, restored: Restored) -> Result<(), AllocError> {
+    match restored {
+        Ok(()) => text.push_str("done"),
+        Err(fault) => put_fault(text, fault),
     }
 }
 
@@ -237,7 +246,11 @@ fn push_names(names: &mut Vec<&'static str>, row: &Row) -> Result<(), AllocError
 }
 
 // Restores a row, unless it has more files than may be.
-fn restore(alloc: Global, row: &Row, folder: &mut MemFolder) -> Result<Option<Answer>, AllocError> {
+fn restore(
+    alloc: Global,
+    row: &Row,
+    folder: &mut MemFolder,
+) -> Result<Option<Restored>, AllocError> {
     let mut names = Vec::new(alloc);
     push_names(&mut names, row)?;
     if names.len() > 256 {
@@ -251,16 +264,16 @@ fn restore(alloc: Global, row: &Row, folder: &mut MemFolder) -> Result<Option<An
     Ok(Some(restore_named(alloc, &names, folder)))
 }
 
-// The answer and the new file, and whether files are open still.
+// What came of it and the new file, and whether files are open still.
 fn put_told(
     alloc: Global,
     text: &mut String,
     row: &Row,
-    answer: Option<Answer>,
+    restored: Option<Restored>,
     folder: &MemFolder,
 ) -> Result<(), AllocError> {
-    if let Some(answer) = answer {
-        put_answer(text, answer)?;
+    if let Some(restored) = restored {
+        put_restored(text, restored)?;
     }
     if let Some(bytes) = folder.get(row.output) {
         put_file(alloc, text, bytes, row.files)?;
@@ -281,9 +294,9 @@ pub(crate) fn text_of(
     most: u32,
 ) -> Result<String, AllocError> {
     let mut folder = folder_of(alloc, row, fault, most)?;
-    let answer = restore(alloc, row, &mut folder)?;
+    let restored = restore(alloc, row, &mut folder)?;
     let mut text = String::new(alloc);
-    put_told(alloc, &mut text, row, answer, &folder)?;
+    put_told(alloc, &mut text, row, restored, &folder)?;
     Ok(text)
 }
 

@@ -15,16 +15,21 @@ use Rattle.dat_options.specs.declared.fault.OpenFault.{OpenFault}
 use Rattle.dat_header.specs.declared.header.Header.{Header}
 use Rattle.dat_header.specs.Partial.{ReadsPartial, partial_of}
 use Rattle.new_files.specs.Stored.{IsUnmade}
-use Rattle.restore_tool.specs.declared.copying.RestoreFault.{RestoreFault}
-use Rattle.restore_tool.specs.declared.copying.RestoreFault.TheVariants as fault_code
-use Rattle.restore_tool.specs.declared.named.Answer.{Answer}
-use Rattle.restore_tool.specs.declared.named.Answer.TheVariants as code
+use Rattle.restore_tool.specs.declared.copying.DataFault.{DataFault}
+use Rattle.restore_tool.specs.declared.copying.DataFault.TheVariants as data_code
+use Rattle.restore_tool.specs.declared.named.RestoreFault.{RestoreFault}
+use Rattle.restore_tool.specs.declared.named.RestoreFault.TheVariants as code
 use Rattle.restore_tool.specs.declared.named.Source.{Source}
-use Rattle.restore_tool.specs.Answers.{Causes, ClosesAll, Created, KeepsFiles, LeavesOpen, SomeFaulty, answer_of}
+use Rattle.restore_tool.specs.Answers.{Causes, ClosesAll, Created, KeepsFiles, LeavesOpen, SomeFaulty, fault_of_data}
 use Rattle.restore_tool.specs.Copying.{AllTold, text_of}
 use Rattle.restore_tool.specs.Meaning.{IsDone, NamesData, Task, missing, refused, made, task_of, texts_of, with_header, with_partial, with_texts}
 use Rattle.restore_tool.specs.Restored.{for_processors, restored}
 use Rattle.restore_tool.specs.Restoring.{CreatesOne, Leaves, LeavesUnfinished}
+
+-- what the work on open files gives
+abbrev pub result_of : Result Unit DataFault → Result Unit RestoreFault
+result_of (Ok done) = Ok done
+result_of (Err fault) = Err (fault_of_data fault)
 
 -- THE BYTES OF THE OPEN FILES
 
@@ -78,84 +83,83 @@ not_missing named names header output some = by_found (texts_of named names) ref
 
 -- WHAT WAS MADE
 
-done_by : (header : Header) (texts : List (List ℕ)) (output : List ℕ) (start mid now : Counts) (named : NamedFiles) (new : Option NamedFiles) (files : List FileSeen) (end : Result Unit RestoreFault)
+done_by : (header : Header) (texts : List (List ℕ)) (output : List ℕ) (start mid now : Counts) (named : NamedFiles) (new : Option NamedFiles) (files : List FileSeen) (end : Result Unit DataFault)
     → map text_of files ≡ texts → AllTold files → mid.unfinished ≡ start.unfinished → mid.created ≡ start.created → Leaves header files output mid now (Some named) new end → CreatesOne mid.created now.created end
-    → IsDone (made (record { name = output; content = restored header texts })) output start now named new (answer_of end)
+    → IsDone (made (record { name = output; content = restored header texts })) output start now named new (result_of end)
 done_by header texts output start mid now named new files (Ok done) same told since few leaves creates =
     leaves told ∙ ap (λ (ts : List (List ℕ)). Some (insert named output (restored header ts))) same
-done_by header texts output start mid now named new files (Err (fault_code.Read file)) same told since few leaves creates = (leaves, omega (arith, creates, few))
-done_by header texts output start mid now named new files (Err fault_code.Write) same told since few leaves creates =
+done_by header texts output start mid now named new files (Err (data_code.Read file)) same told since few leaves creates = (leaves, omega (arith, creates, few))
+done_by header texts output start mid now named new files (Err data_code.Write) same told since few leaves creates =
     (refl, subst (λ (n : ℕ). IsUnmade n now.unfinished output (Some named) new) since leaves)
 
-pub data_done : (header made_header : Header) (cpus : ℕ) (output : List ℕ) (names : List (List ℕ)) (files : List FileSeen) (start mid now : Counts) (old opened new : Option NamedFiles) (end : Result Unit RestoreFault) (answer : Answer)
+pub data_done : (header made_header : Header) (cpus : ℕ) (output : List ℕ) (names : List (List ℕ)) (files : List FileSeen) (start mid now : Counts) (old opened new : Option NamedFiles) (end : Result Unit DataFault)
     → made_header ≡ for_processors header cpus → cpus ≡ length names → length files ≡ length names → AreFilesOf old names files → opened ≡ old → mid.unfinished ≡ start.unfinished → mid.created ≡ start.created
-    → answer ≡ answer_of end → Leaves made_header files output mid now opened new end → CreatesOne mid.created now.created end
-    → IfSome old (λ named. IsDone (with_texts header output (texts_of named names)) output start now named new answer)
-data_done header made_header cpus output names files start mid now None opened new end answer is count each are same since few answered leaves creates = tt
-data_done header made_header cpus output names files start mid now (Some named) opened new end answer is count each are same since few answered leaves creates =
+    → Leaves made_header files output mid now opened new end → CreatesOne mid.created now.created end
+    → IfSome old (λ named. IsDone (with_texts header output (texts_of named names)) output start now named new (result_of end))
+data_done header made_header cpus output names files start mid now None opened new end is count each are same since few leaves creates = tt
+data_done header made_header cpus output names files start mid now (Some named) opened new end is count each are same since few leaves creates =
     let texts = opened_texts named names files each are in
     let all = map text_of files in
     let long : cpus ≡ length all = omega (arith, count, each, length-map files text_of) in
     let own : made_header ≡ for_processors header (length all) = is ∙ ap (for_processors header) long in
     let here = subst (λ (o : Option NamedFiles). Leaves made_header files output mid now o new end) same leaves in
     let by = done_by (for_processors header (length all)) all output start mid now named new files end refl texts.told since few (subst (λ (h : Header). Leaves h files output mid now (Some named) new end) own here) creates in
-    subst (λ (a : Answer). IsDone (with_texts header output (texts_of named names)) output start now named new a) (sym answered)
-    (subst (λ (o : Option (List (List ℕ))). IsDone (with_texts header output o) output start now named new (answer_of end)) (sym texts.texts) by)
+    subst (λ (o : Option (List (List ℕ))). IsDone (with_texts header output o) output start now named new (result_of end)) (sym texts.texts) by
 
 -- a file could not be opened or read, and nothing was created
 pub unread_done : (task : NamedFiles → Task) (output : List ℕ) (start now : Counts) (old new : Option NamedFiles) (source : Source) → new ≡ old → now.created ≡ start.created
-    → IfSome old (λ named. IsDone (task named) output start now named new (code.Read source))
+    → IfSome old (λ named. IsDone (task named) output start now named new (Err (code.Read source)))
 unread_done task output start now None new source same few = tt
 unread_done task output start now (Some named) new source same few = (same, omega (arith, few))
 
 -- there was no memory
-pub unheld_done : (task : NamedFiles → Task) (output : List ℕ) (start now : Counts) (old new : Option NamedFiles) → new ≡ old → IfSome old (λ named. IsDone (task named) output start now named new code.NoMemory)
+pub unheld_done : (task : NamedFiles → Task) (output : List ℕ) (start now : Counts) (old new : Option NamedFiles) → new ≡ old → IfSome old (λ named. IsDone (task named) output start now named new (Err code.NoMemory))
 unheld_done task output start now None new same = tt
 unheld_done task output start now (Some named) new same = same
 
 -- closing files changes nothing of it
-done_closed : (task : Task) (output : List ℕ) (start mid now : Counts) (named : NamedFiles) (new last : Option NamedFiles) (answer : Answer) → now.unfinished ≡ mid.unfinished → now.created ≡ mid.created → last ≡ new
-    → IsDone task output start mid named new answer → IsDone task output start now named last answer
-done_closed missing output start mid now named new last code.Done since few same done = absurd done
-done_closed (refused fault) output start mid now named new last code.Done since few same done = absurd done
-done_closed (made file) output start mid now named new last code.Done since few same done = same ∙ done
-done_closed task output start mid now named new last (code.Refused fault) since few same done = (done.0, same ∙ done.1)
-done_closed task output start mid now named new last (code.Read source) since few same done = (same ∙ done.0, omega (arith, few, done.1))
-done_closed task output start mid now named new last code.Write since few same done =
+done_closed : (task : Task) (output : List ℕ) (start mid now : Counts) (named : NamedFiles) (new last : Option NamedFiles) (result : Result Unit RestoreFault) → now.unfinished ≡ mid.unfinished → now.created ≡ mid.created → last ≡ new
+    → IsDone task output start mid named new result → IsDone task output start now named last result
+done_closed missing output start mid now named new last (Ok value) since few same done = absurd done
+done_closed (refused fault) output start mid now named new last (Ok value) since few same done = absurd done
+done_closed (made file) output start mid now named new last (Ok value) since few same done = same ∙ done
+done_closed task output start mid now named new last (Err (code.Refused fault)) since few same done = (done.0, same ∙ done.1)
+done_closed task output start mid now named new last (Err (code.Read source)) since few same done = (same ∙ done.0, omega (arith, few, done.1))
+done_closed task output start mid now named new last (Err code.Write) since few same done =
     (done.0, subst (λ (n : ℕ). IsUnmade start.unfinished n output (Some named) last) (sym since) (subst (λ (m : Option NamedFiles). IsUnmade start.unfinished mid.unfinished output (Some named) m) (sym same) done.1))
-done_closed task output start mid now named new last code.NoMemory since few same done = same ∙ done
+done_closed task output start mid now named new last (Err code.NoMemory) since few same done = same ∙ done
 
-pub all_closed : (task : NamedFiles → Task) (output : List ℕ) (start mid now : Counts) (old new last : Option NamedFiles) (answer : Answer) → now.unfinished ≡ mid.unfinished → now.created ≡ mid.created → last ≡ new
-    → IfSome old (λ named. IsDone (task named) output start mid named new answer) → IfSome old (λ named. IsDone (task named) output start now named last answer)
-all_closed task output start mid now None new last answer since few same done = tt
-all_closed task output start mid now (Some named) new last answer since few same done = done_closed (task named) output start mid now named new last answer since few same done
+pub all_closed : (task : NamedFiles → Task) (output : List ℕ) (start mid now : Counts) (old new last : Option NamedFiles) (result : Result Unit RestoreFault) → now.unfinished ≡ mid.unfinished → now.created ≡ mid.created → last ≡ new
+    → IfSome old (λ named. IsDone (task named) output start mid named new result) → IfSome old (λ named. IsDone (task named) output start now named last result)
+all_closed task output start mid now None new last result since few same done = tt
+all_closed task output start mid now (Some named) new last result since few same done = done_closed (task named) output start mid now named new last result since few same done
 
 -- nor does opening them
-done_since : (task : Task) (output : List ℕ) (start mid now : Counts) (named : NamedFiles) (new : Option NamedFiles) (answer : Answer) → mid.unfinished ≡ start.unfinished → mid.created ≡ start.created
-    → IsDone task output mid now named new answer → IsDone task output start now named new answer
-done_since missing output start mid now named new code.Done since few done = absurd done
-done_since (refused fault) output start mid now named new code.Done since few done = absurd done
-done_since (made file) output start mid now named new code.Done since few done = done
-done_since task output start mid now named new (code.Refused fault) since few done = done
-done_since task output start mid now named new (code.Read source) since few done = (done.0, omega (arith, few, done.1))
-done_since task output start mid now named new code.Write since few done = (done.0, subst (λ (n : ℕ). IsUnmade n now.unfinished output (Some named) new) since done.1)
-done_since task output start mid now named new code.NoMemory since few done = done
+done_since : (task : Task) (output : List ℕ) (start mid now : Counts) (named : NamedFiles) (new : Option NamedFiles) (result : Result Unit RestoreFault) → mid.unfinished ≡ start.unfinished → mid.created ≡ start.created
+    → IsDone task output mid now named new result → IsDone task output start now named new result
+done_since missing output start mid now named new (Ok value) since few done = absurd done
+done_since (refused fault) output start mid now named new (Ok value) since few done = absurd done
+done_since (made file) output start mid now named new (Ok value) since few done = done
+done_since task output start mid now named new (Err (code.Refused fault)) since few done = done
+done_since task output start mid now named new (Err (code.Read source)) since few done = (done.0, omega (arith, few, done.1))
+done_since task output start mid now named new (Err code.Write) since few done = (done.0, subst (λ (n : ℕ). IsUnmade n now.unfinished output (Some named) new) since done.1)
+done_since task output start mid now named new (Err code.NoMemory) since few done = done
 
-pub done_opened : (task : NamedFiles → Task) (output : List ℕ) (start mid now : Counts) (old opened new : Option NamedFiles) (answer : Answer) → mid.unfinished ≡ start.unfinished → mid.created ≡ start.created → opened ≡ old
-    → IfSome opened (λ named. IsDone (task named) output mid now named new answer) → IfSome old (λ named. IsDone (task named) output start now named new answer)
-done_opened task output start mid now None opened new answer since few same done = tt
-done_opened task output start mid now (Some named) opened new answer since few same done =
-    done_since (task named) output start mid now named new answer since few
-    (subst (λ (o : Option NamedFiles). IfSome o (λ m. IsDone (task m) output mid now m new answer)) same done)
+pub done_opened : (task : NamedFiles → Task) (output : List ℕ) (start mid now : Counts) (old opened new : Option NamedFiles) (result : Result Unit RestoreFault) → mid.unfinished ≡ start.unfinished → mid.created ≡ start.created → opened ≡ old
+    → IfSome opened (λ named. IsDone (task named) output mid now named new result) → IfSome old (λ named. IsDone (task named) output start now named new result)
+done_opened task output start mid now None opened new result since few same done = tt
+done_opened task output start mid now (Some named) opened new result since few same done =
+    done_since (task named) output start mid now named new result since few
+    (subst (λ (o : Option NamedFiles). IfSome o (λ m. IsDone (task m) output mid now m new result)) same done)
 
 -- CAUSES AND COUNTS
 
-pub causes_more : (answer : Answer) (P Q R S : Type 0) → (P → Q) → (R → S) → Causes answer P R → Causes answer Q S
-causes_more code.Done P Q R S f h causes = tt
-causes_more (code.Refused fault) P Q R S f h causes = causes
-causes_more (code.Read source) P Q R S f h causes = f causes
-causes_more code.Write P Q R S f h causes = h causes
-causes_more code.NoMemory P Q R S f h causes = tt
+pub causes_more : (result : Result Unit RestoreFault) (P Q R S : Type 0) → (P → Q) → (R → S) → Causes result P R → Causes result Q S
+causes_more (Ok done) P Q R S f h causes = tt
+causes_more (Err (code.Refused fault)) P Q R S f h causes = causes
+causes_more (Err (code.Read source)) P Q R S f h causes = f causes
+causes_more (Err code.Write) P Q R S f h causes = h causes
+causes_more (Err code.NoMemory) P Q R S f h causes = tt
 
 -- a file whose reads failed is counted when it is closed
 pub closed_rose : (files : List FileSeen) (start mid now : Counts) → start.reading ≤ mid.reading → ClosesMany files mid now → Rose start.reading mid.reading ⊎ SomeFaulty files → Rose start.reading now.reading
@@ -165,41 +169,41 @@ closed_rose files start mid now later closes (inr faulty) =
     let rose = closes.faulty faulty.0 d faulty.1 (faulty.2 d) in
     omega (arith, rose, later)
 
-pub created_since : (answer : Answer) (first before now : ℕ) → before ≡ first → Created answer before now → Created answer first now
-created_since answer first before now same created = subst (λ (n : ℕ). Created answer n now) same created
+pub created_since : (result : Result Unit RestoreFault) (first before now : ℕ) → before ≡ first → Created result before now → Created result first now
+created_since result first before now same created = subst (λ (n : ℕ). Created result n now) same created
 
-pub created_then : (answer : Answer) (before mid now : ℕ) → now ≡ mid → Created answer before mid → Created answer before now
-created_then answer before mid now same created = subst (λ (n : ℕ). Created answer before n) (sym same) created
+pub created_then : (result : Result Unit RestoreFault) (before mid now : ℕ) → now ≡ mid → Created result before mid → Created result before now
+created_then result before mid now same created = subst (λ (n : ℕ). Created result before n) (sym same) created
 
-pub created_by : (end : Result Unit RestoreFault) (answer : Answer) (first before now : ℕ) → answer ≡ answer_of end → before ≡ first → CreatesOne before now end → Created answer first now
-created_by end answer first before now is same creates = subst (λ (a : Answer). Created a first now) (sym is) (created_since (answer_of end) first before now same (by_end end creates))
+pub created_by : (end : Result Unit DataFault) (first before now : ℕ) → before ≡ first → CreatesOne before now end → Created (result_of end) first now
+created_by end first before now same creates = created_since (result_of end) first before now same (by_end end creates)
   where
-    by_end : (e : Result Unit RestoreFault) → CreatesOne before now e → Created (answer_of e) before now
+    by_end : (e : Result Unit DataFault) → CreatesOne before now e → Created (result_of e) before now
     by_end (Ok done) c = c
-    by_end (Err (fault_code.Read file)) c = omega (arith, c)
-    by_end (Err fault_code.Write) c = c
+    by_end (Err (data_code.Read file)) c = omega (arith, c)
+    by_end (Err data_code.Write) c = c
 
 -- a name changed only where the new file was finished, or could not be
-pub kept_by : (header : Header) (files : List FileSeen) (output : List ℕ) (mid now : Counts) (old opened new : Option NamedFiles) (end : Result Unit RestoreFault) (answer : Answer) → answer ≡ answer_of end → opened ≡ old
-    → Leaves header files output mid now opened new end → KeepsFiles answer old new
-kept_by header files output mid now old opened new end answer is same leaves = subst (λ (a : Answer). KeepsFiles a old new) (sym is) (by_end end leaves)
+pub kept_by : (header : Header) (files : List FileSeen) (output : List ℕ) (mid now : Counts) (old opened new : Option NamedFiles) (end : Result Unit DataFault) → opened ≡ old
+    → Leaves header files output mid now opened new end → KeepsFiles (result_of end) old new
+kept_by header files output mid now old opened new end same leaves = by_end end leaves
   where
-    by_end : (e : Result Unit RestoreFault) → Leaves header files output mid now opened new e → KeepsFiles (answer_of e) old new
+    by_end : (e : Result Unit DataFault) → Leaves header files output mid now opened new e → KeepsFiles (result_of e) old new
     by_end (Ok done) leaves = tt
-    by_end (Err (fault_code.Read file)) leaves = leaves ∙ same
-    by_end (Err fault_code.Write) leaves = tt
+    by_end (Err (data_code.Read file)) leaves = leaves ∙ same
+    by_end (Err data_code.Write) leaves = tt
 
-pub kept_around : (answer : Answer) (old first new last : Option NamedFiles) → first ≡ old → last ≡ new → KeepsFiles answer first new → KeepsFiles answer old last
-kept_around code.Done old first new last before after kept = tt
-kept_around (code.Refused fault) old first new last before after kept = after ∙ kept ∙ before
-kept_around (code.Read source) old first new last before after kept = after ∙ kept ∙ before
-kept_around code.Write old first new last before after kept = tt
-kept_around code.NoMemory old first new last before after kept = after ∙ kept ∙ before
+pub kept_around : (result : Result Unit RestoreFault) (old first new last : Option NamedFiles) → first ≡ old → last ≡ new → KeepsFiles result first new → KeepsFiles result old last
+kept_around (Ok done) old first new last before after kept = tt
+kept_around (Err (code.Refused fault)) old first new last before after kept = after ∙ kept ∙ before
+kept_around (Err (code.Read source)) old first new last before after kept = after ∙ kept ∙ before
+kept_around (Err code.Write) old first new last before after kept = tt
+kept_around (Err code.NoMemory) old first new last before after kept = after ∙ kept ∙ before
 
-pub unfinished_by : (end : Result Unit RestoreFault) (before now : ℕ) → LeavesUnfinished before now end → before ≤ now
+pub unfinished_by : (end : Result Unit DataFault) (before now : ℕ) → LeavesUnfinished before now end → before ≤ now
 unfinished_by (Ok done) before now leaves = omega (arith, leaves)
-unfinished_by (Err (fault_code.Read file)) before now leaves = omega (arith, leaves)
-unfinished_by (Err fault_code.Write) before now leaves = leaves.0
+unfinished_by (Err (data_code.Read file)) before now leaves = omega (arith, leaves)
+unfinished_by (Err data_code.Write) before now leaves = leaves.0
 
 pub all_closed_counts : (count most : ℕ) (files : List FileSeen) (start mid now : Counts) → count ≡ length files → count ≤ most → LeavesOpen count start mid → ClosesMany files mid now → ClosesAll most start now
 all_closed_counts count most files start mid now each few opens closes = record {

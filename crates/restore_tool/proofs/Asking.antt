@@ -12,12 +12,13 @@ use Rattle.dat_options.specs.declared.fault.OpenFault.{OpenFault}
 use Rattle.dat_options.specs.declared.fault.OpenFault.TheVariants.{Read, Memory}
 use Rattle.dat_options.specs.Answer.{KeptAt}
 use Rattle.new_files.specs.Requested.{AskedAll, AskedFirst}
-use Rattle.restore_tool.specs.declared.copying.RestoreFault.{RestoreFault}
-use Rattle.restore_tool.specs.declared.copying.RestoreFault.TheVariants as fault_code
-use Rattle.restore_tool.specs.declared.named.Answer.{Answer}
-use Rattle.restore_tool.specs.declared.named.Answer.TheVariants as code
-use Rattle.restore_tool.specs.Answers.{IfNoMemory, answer_of, unread_of}
+use Rattle.restore_tool.specs.declared.copying.DataFault.{DataFault}
+use Rattle.restore_tool.specs.declared.copying.DataFault.TheVariants as data_code
+use Rattle.restore_tool.specs.declared.named.RestoreFault.{RestoreFault}
+use Rattle.restore_tool.specs.declared.named.RestoreFault.TheVariants as code
+use Rattle.restore_tool.specs.Answers.{IfNoMemory, fault_of_open}
 use Rattle.restore_tool.specs.Asked.{AsksFor}
+use Rattle.restore_tool.proofs.Answered.{result_of}
 
 -- NAMES
 
@@ -47,9 +48,9 @@ pub asked_few : (names more before now : List (List ℕ)) (count : ℕ) → coun
 asked_few names more before now count few asked = (count, asked ∙ ap (λ (xs : List (List ℕ)). before ++ xs) (sym (take-append-le count names more few)))
 
 -- all were opened, and the new one was asked for
-pub asked_made : (names before mid now : List (List ℕ)) (output : List ℕ) (count : ℕ) (end : Result Unit RestoreFault) (answer : Answer) → answer ≡ answer_of end → length names ≤ count → AskedAll (take count names) before mid → AskedAll (output ∷ []) mid now
-    → AsksFor (names ++ output ∷ []) before now answer
-asked_made names before mid now output count end answer is long opened made = subst (AsksFor (names ++ output ∷ []) before now) (sym is) (by_end end)
+pub asked_made : (names before mid now : List (List ℕ)) (output : List ℕ) (count : ℕ) (end : Result Unit DataFault) → length names ≤ count → AskedAll (take count names) before mid → AskedAll (output ∷ []) mid now
+    → AsksFor (names ++ output ∷ []) before now (result_of end)
+asked_made names before mid now output count end long opened made = by_end end
   where
     whole : List (List ℕ)
     whole = names ++ output ∷ []
@@ -59,26 +60,23 @@ asked_made names before mid now output count end answer is long opened made = su
         made ∙ ap (λ (xs : List (List ℕ)). xs ++ output ∷ []) opened ∙ append_assoc before (take count names) (output ∷ [])
         ∙ ap (λ (xs : List (List ℕ)). before ++ (xs ++ output ∷ [])) (take_all count names long)
 
-    by_end : (e : Result Unit RestoreFault) → AsksFor whole before now (answer_of e)
+    by_end : (e : Result Unit DataFault) → AsksFor whole before now (result_of e)
     by_end (Ok done) = all
-    by_end (Err (fault_code.Read file)) = (length whole, all ∙ ap (λ (xs : List (List ℕ)). before ++ xs) (sym (take_all (length whole) whole (omega arith))))
-    by_end (Err fault_code.Write) = all
+    by_end (Err (data_code.Read file)) = (length whole, all ∙ ap (λ (xs : List (List ℕ)). before ++ xs) (sym (take_all (length whole) whole (omega arith))))
+    by_end (Err data_code.Write) = all
 
-pub asks_then : (names before mid now : List (List ℕ)) (answer : Answer) → now ≡ mid → AsksFor names before mid answer → AsksFor names before now answer
-asks_then names before mid now answer same asks = subst (λ (xs : List (List ℕ)). AsksFor names before xs answer) (sym same) asks
+pub asks_then : (names before mid now : List (List ℕ)) (result : Result Unit RestoreFault) → now ≡ mid → AsksFor names before mid result → AsksFor names before now result
+asks_then names before mid now result same asks = subst (λ (xs : List (List ℕ)). AsksFor names before xs result) (sym same) asks
 
 -- the partial file has no header
-pub unread_asks : (fault : OpenFault) (answer : Answer) (names before : List (List ℕ)) → answer ≡ unread_of fault → AsksFor names before before answer
-unread_asks fault answer names before is = subst (AsksFor names before before) (sym is) (by_fault fault)
-  where
-    by_fault : (f : OpenFault) → AsksFor names before before (unread_of f)
-    by_fault Read = asked_none names before
-    by_fault Memory = asked_none names before
-    by_fault f = asked_none names before
+pub unread_asks : (fault : OpenFault) (names before : List (List ℕ)) → AsksFor names before before (Err (fault_of_open fault))
+unread_asks Read names before = asked_none names before
+unread_asks Memory names before = asked_none names before
+unread_asks fault names before = asked_none names before
 
 -- with the partial file before
-pub asks_first : (first : List ℕ) (names before mid now : List (List ℕ)) (answer : Answer) → AskedAll (first ∷ []) before mid → AsksFor names mid now answer → AsksFor (first ∷ names) before now answer
-asks_first first names before mid now answer one asks = by_answer answer asks
+pub asks_first : (first : List ℕ) (names before mid now : List (List ℕ)) (result : Result Unit RestoreFault) → AskedAll (first ∷ []) before mid → AsksFor names mid now result → AsksFor (first ∷ names) before now result
+asks_first first names before mid now result one asks = by_result result asks
   where
     all : (rest : List (List ℕ)) → AskedAll rest mid now → AskedAll (first ∷ rest) before now
     all rest asked = asked ∙ ap (λ (xs : List (List ℕ)). xs ++ rest) one ∙ append_assoc before (first ∷ []) rest
@@ -86,40 +84,31 @@ asks_first first names before mid now answer one asks = by_answer answer asks
     few : AskedFirst names mid now → AskedFirst (first ∷ names) before now
     few asked = (suc asked.0, all (take asked.0 names) asked.1)
 
-    by_answer : (a : Answer) → AsksFor names mid now a → AsksFor (first ∷ names) before now a
-    by_answer code.Done asks = all names asks
-    by_answer (code.Refused fault) asks = few asks
-    by_answer (code.Read source) asks = few asks
-    by_answer code.Write asks = all names asks
-    by_answer code.NoMemory asks = few asks
+    by_result : (a : Result Unit RestoreFault) → AsksFor names mid now a → AsksFor (first ∷ names) before now a
+    by_result (Ok done) asks = all names asks
+    by_result (Err (code.Refused fault)) asks = few asks
+    by_result (Err (code.Read source)) asks = few asks
+    by_result (Err code.Write) asks = all names asks
+    by_result (Err code.NoMemory) asks = few asks
 
 -- COUNTS OF FAULTS
 
 pub no_faults : (counts : Counts) → KeepsFaults counts counts
 no_faults counts = record { reading = refl; writing = refl }
 
-pub made_memory : (end : Result Unit RestoreFault) (answer : Answer) (P : Type 0) → answer ≡ answer_of end → IfNoMemory answer P
-made_memory end answer P is = subst (λ (a : Answer). IfNoMemory a P) (sym is) (by_end end)
-  where
-    by_end : (e : Result Unit RestoreFault) → IfNoMemory (answer_of e) P
-    by_end (Ok done) = tt
-    by_end (Err (fault_code.Read file)) = tt
-    by_end (Err fault_code.Write) = tt
+pub made_memory : (end : Result Unit DataFault) (P : Type 0) → IfNoMemory (result_of end) P
+made_memory (Ok done) P = tt
+made_memory (Err (data_code.Read file)) P = tt
+made_memory (Err data_code.Write) P = tt
 
-pub unread_memory : (fault : OpenFault) (answer : Answer) (before now : ℕ) (P : Type 0) → answer ≡ unread_of fault → (now ≡ before → P) → KeptAt before now fault → IfNoMemory answer P
-unread_memory fault answer before now P is f kept = subst (λ (a : Answer). IfNoMemory a P) (sym is) (by_fault fault kept)
-  where
-    by_fault : (e : OpenFault) → KeptAt before now e → IfNoMemory (unread_of e) P
-    by_fault Read kept = tt
-    by_fault Memory kept = f kept
-    by_fault e kept = tt
+pub unread_memory : (fault : OpenFault) (before now : ℕ) (P : Type 0) → (now ≡ before → P) → KeptAt before now fault → IfNoMemory (Err (fault_of_open fault)) P
+unread_memory Read before now P f kept = tt
+unread_memory Memory before now P f kept = f kept
+unread_memory fault before now P f kept = tt
 
-pub memory_map : (answer : Answer) (P Q : Type 0) → (P → Q) → IfNoMemory answer P → IfNoMemory answer Q
-memory_map code.Done P Q f p = tt
-memory_map (code.Refused fault) P Q f p = tt
-memory_map (code.Read source) P Q f p = tt
-memory_map code.Write P Q f p = tt
-memory_map code.NoMemory P Q f p = f p
+pub memory_map : (result : Result Unit RestoreFault) (P Q : Type 0) → (P → Q) → IfNoMemory result P → IfNoMemory result Q
+memory_map (Err code.NoMemory) P Q f p = f p
+memory_map result P Q f p = tt
 
 -- no file was open
 pub closed_faults : {F : Type 0} (f : F → FileSeen) (files : List F) (start mid now : Counts) → files ≡ [] → ClosesMany (map f files) mid now → KeepsFaults start mid → KeepsFaults start now

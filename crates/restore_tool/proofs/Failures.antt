@@ -12,17 +12,18 @@ use Rattle.trace_outside.specs.Seen.{FileSeen}
 use Rattle.trace_outside.specs.Open.{AreFilesOf, AreThere}
 use Rattle.dat_options.specs.declared.fault.OpenFault.{OpenFault}
 use Rattle.dat_options.specs.declared.fault.OpenFault.TheVariants.{Read, Memory}
-use Rattle.restore_tool.specs.declared.copying.RestoreFault.{RestoreFault}
-use Rattle.restore_tool.specs.declared.copying.RestoreFault.TheVariants as fault_code
-use Rattle.restore_tool.specs.declared.named.Answer.{Answer}
-use Rattle.restore_tool.specs.declared.named.Answer.TheVariants as code
+use Rattle.restore_tool.specs.declared.copying.DataFault.{DataFault}
+use Rattle.restore_tool.specs.declared.copying.DataFault.TheVariants as data_code
+use Rattle.restore_tool.specs.declared.named.RestoreFault.{RestoreFault}
+use Rattle.restore_tool.specs.declared.named.RestoreFault.TheVariants as code
 use Rattle.restore_tool.specs.declared.named.Source.{Source}
 use Rattle.restore_tool.specs.declared.named.Source.TheVariants as source_code
-use Rattle.restore_tool.specs.Answers.{Causes, SomeFaulty, answer_of, unread_of}
+use Rattle.restore_tool.specs.Answers.{Causes, SomeFaulty, fault_of_open}
 use Rattle.restore_tool.specs.Copying.{IsCaused}
 use Rattle.restore_tool.specs.Failing.{AreThereBefore, IfRead, IsFaulty, IsUnread, IsUnreadBehind, inputs_of, place_of}
 use Rattle.restore_tool.specs.Meaning.{NamesData}
 use Rattle.restore_tool.proofs.OpenFiles.{there_is}
+use Rattle.restore_tool.proofs.Answered.{result_of}
 
 -- NAMES THAT WERE MISSED
 
@@ -90,53 +91,48 @@ none_missing None names files file before now lt are same = tt
 none_missing (Some named) names files file before now lt are same = λ d.
     same ∙ sym (there_is (get named (get_or names file d)) before (are file d nothing_seen lt).0)
 
-pub data_unread : (told : Option NamedFiles) (names : List (List ℕ)) (files after : List FileSeen) (before now faults faults_now : ℕ) (end : Result Unit RestoreFault) (answer : Answer) → answer ≡ answer_of end → length files ≡ length names
-    → AreFilesOf told names files → IsCaused end files after faults faults_now → IfSome told (λ named. now ≡ before) → IfRead answer (IsUnreadBehind told names before now)
-data_unread told names files after before now faults faults_now end answer is each are caused same =
-    subst (λ (a : Answer). IfRead a (IsUnreadBehind told names before now)) (sym is) (by_end end caused)
+pub data_unread : (told : Option NamedFiles) (names : List (List ℕ)) (files after : List FileSeen) (before now faults faults_now : ℕ) (end : Result Unit DataFault) → length files ≡ length names
+    → AreFilesOf told names files → IsCaused end files after faults faults_now → IfSome told (λ named. now ≡ before) → IfRead (result_of end) (IsUnreadBehind told names before now)
+data_unread told names files after before now faults faults_now end each are caused same = by_end end caused
   where
-    by_end : (e : Result Unit RestoreFault) → IsCaused e files after faults faults_now → IfRead (answer_of e) (IsUnreadBehind told names before now)
+    by_end : (e : Result Unit DataFault) → IsCaused e files after faults faults_now → IfRead (result_of e) (IsUnreadBehind told names before now)
     by_end (Ok done) caused = tt
-    by_end (Err (fault_code.Read file)) caused = record {
+    by_end (Err (data_code.Read file)) caused = record {
       inside = omega (arith, caused.0, each);
       before = files_before told names files file (omega (arith, caused.0)) are;
       missing = none_missing told names files file before now caused.0 are same;
     }
-    by_end (Err fault_code.Write) caused = tt
+    by_end (Err data_code.Write) caused = tt
 
 -- a fault is told of the file whose count rose
-pub data_faulty : (before now : List FileSeen) (failed : Type 0) (start mid last : Counts) (end : Result Unit RestoreFault) (answer : Answer) → answer ≡ answer_of end → length now ≡ length before → start.writing ≤ mid.writing
-    → IsCaused end before now mid.writing last.writing → Causes answer (IfRead answer (IsFaulty failed now)) (Rose start.writing last.writing)
-data_faulty before now failed start mid last end answer is each later caused =
-    subst (λ (a : Answer). Causes a (IfRead a (IsFaulty failed now)) (Rose start.writing last.writing)) (sym is) (by_end end caused)
+pub data_faulty : (before now : List FileSeen) (failed : Type 0) (start mid last : Counts) (end : Result Unit DataFault) → length now ≡ length before → start.writing ≤ mid.writing
+    → IsCaused end before now mid.writing last.writing → Causes (result_of end) (IfRead (result_of end) (IsFaulty failed now)) (Rose start.writing last.writing)
+data_faulty before now failed start mid last end each later caused = by_end end caused
   where
-    by_end : (e : Result Unit RestoreFault) → IsCaused e before now mid.writing last.writing → Causes (answer_of e) (IfRead (answer_of e) (IsFaulty failed now)) (Rose start.writing last.writing)
+    by_end : (e : Result Unit DataFault) → IsCaused e before now mid.writing last.writing → Causes (result_of e) (IfRead (result_of e) (IsFaulty failed now)) (Rose start.writing last.writing)
     by_end (Ok done) caused = tt
-    by_end (Err (fault_code.Read file)) caused = inr (omega (arith, caused.0, each), λ d. let rose = caused.1 d in omega (arith, rose))
-    by_end (Err fault_code.Write) caused = omega (arith, caused, later)
+    by_end (Err (data_code.Read file)) caused = inr (omega (arith, caused.0, each), λ d. let rose = caused.1 d in omega (arith, rose))
+    by_end (Err data_code.Write) caused = omega (arith, caused, later)
 
 faulty_some : (failed : Type 0) (held : List FileSeen) (source : Source) → IsFaulty failed held source → failed ⊎ SomeFaulty held
 faulty_some failed held source_code.Partial faulty = absurd faulty
 faulty_some failed held (source_code.File file) (inl unopened) = inl unopened.1
 faulty_some failed held (source_code.File file) (inr faulty) = inr (file, faulty.0, faulty.1)
 
-pub causes_faulty : (answer : Answer) (failed : Type 0) (held : List FileSeen) (Q R S : Type 0) → (failed ⊎ SomeFaulty held → Q) → (R → S) → Causes answer (IfRead answer (IsFaulty failed held)) R → Causes answer Q S
-causes_faulty code.Done failed held Q R S f h causes = tt
-causes_faulty (code.Refused fault) failed held Q R S f h causes = causes
-causes_faulty (code.Read source) failed held Q R S f h causes = f (faulty_some failed held source causes)
-causes_faulty code.Write failed held Q R S f h causes = h causes
-causes_faulty code.NoMemory failed held Q R S f h causes = tt
+pub causes_faulty : (result : Result Unit RestoreFault) (failed : Type 0) (held : List FileSeen) (Q R S : Type 0) → (failed ⊎ SomeFaulty held → Q) → (R → S) → Causes result (IfRead result (IsFaulty failed held)) R → Causes result Q S
+causes_faulty (Ok done) failed held Q R S f h causes = tt
+causes_faulty (Err (code.Refused fault)) failed held Q R S f h causes = causes
+causes_faulty (Err (code.Read source)) failed held Q R S f h causes = f (faulty_some failed held source causes)
+causes_faulty (Err code.Write) failed held Q R S f h causes = h causes
+causes_faulty (Err code.NoMemory) failed held Q R S f h causes = tt
 
 -- THE PARTIAL FILE
 
 -- its header could not be read
-pub header_unread : (fault : OpenFault) (answer : Answer) (told : Option NamedFiles) (files : List (List ℕ)) (misses : ℕ) → answer ≡ unread_of fault → IfRead answer (IsUnreadBehind told files misses misses)
-header_unread fault answer told files misses is = subst (λ (a : Answer). IfRead a (IsUnreadBehind told files misses misses)) (sym is) (by_fault fault)
-  where
-    by_fault : (f : OpenFault) → IfRead (unread_of f) (IsUnreadBehind told files misses misses)
-    by_fault Read = refl
-    by_fault Memory = tt
-    by_fault f = tt
+pub header_unread : (fault : OpenFault) (told : Option NamedFiles) (files : List (List ℕ)) (misses : ℕ) → IfRead (Err (fault_of_open fault)) (IsUnreadBehind told files misses misses)
+header_unread Read told files misses = refl
+header_unread Memory told files misses = tt
+header_unread fault told files misses = tt
 
 -- no file stands before it
 first_of_all : (told : Option NamedFiles) (names : List (List ℕ)) → IfSome told (λ named. AreThereBefore named names zero)
@@ -185,11 +181,11 @@ module _ (names : NamesData) (bytes : Option (List ℕ)) (before opened worked n
     missing = missed_behind told file first unread.missing;
   }
 
-  pub unread_behind : (answer : Answer) (told first_told : Option NamedFiles) → first_told ≡ told → IsFileOf told names.partial bytes → IfSome told (λ named. opened ≡ before)
-      → IfRead answer (IsUnreadBehind first_told names.files opened worked) → IfRead answer (λ source. IsUnread told (inputs_of names) before now (place_of source))
-  unread_behind code.Done told first_told same is first unread = tt
-  unread_behind (code.Refused fault) told first_told same is first unread = tt
-  unread_behind (code.Read source) told first_told same is first unread =
+  pub unread_behind : (result : Result Unit RestoreFault) (told first_told : Option NamedFiles) → first_told ≡ told → IsFileOf told names.partial bytes → IfSome told (λ named. opened ≡ before)
+      → IfRead result (IsUnreadBehind first_told names.files opened worked) → IfRead result (λ source. IsUnread told (inputs_of names) before now (place_of source))
+  unread_behind (Ok done) told first_told same is first unread = tt
+  unread_behind (Err (code.Refused fault)) told first_told same is first unread = tt
+  unread_behind (Err (code.Read source)) told first_told same is first unread =
       unread_source told source is first (subst (λ (o : Option NamedFiles). IsUnreadBehind o names.files opened worked source) same unread)
-  unread_behind code.Write told first_told same is first unread = tt
-  unread_behind code.NoMemory told first_told same is first unread = tt
+  unread_behind (Err code.Write) told first_told same is first unread = tt
+  unread_behind (Err code.NoMemory) told first_told same is first unread = tt

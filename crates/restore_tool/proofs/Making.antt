@@ -23,14 +23,14 @@ use Rattle.dat_header.proofs.HeaderLaws.{written_spelled}
 use Rattle.dat_header.proofs.Tables.{header_wrapped, same_len}
 use Rattle.new_files.specs.Padding.{IsPage, up_to_page, zeros}
 use Rattle.new_files.proofs.Placing.{no_less}
-use Rattle.restore_tool.specs.declared.copying.RestoreFault.{RestoreFault}
-use Rattle.restore_tool.specs.declared.copying.RestoreFault.TheVariants as code
+use Rattle.restore_tool.specs.declared.copying.DataFault.{DataFault}
+use Rattle.restore_tool.specs.declared.copying.DataFault.TheVariants as code
 use Rattle.restore_tool.specs.Copying.{CopiesAll, IsCaused}
 use Rattle.restore_tool.specs.Restoring.{CreatesOne, Leaves, LeavesUnfinished}
 use Rattle.restore_tool.specs.Restored.{IsRestored, data_behind, header_end, parts_behind, restored, table_of}
 
 -- the data files after the header
-pub wrote_all : (text behind : List ℕ) (old mid new : Option (List ℕ)) (result : Result Unit RestoreFault) → Gained old mid text → CopiesAll behind mid new result → CopiesAll (text ++ behind) old new result
+pub wrote_all : (text behind : List ℕ) (old mid new : Option (List ℕ)) (result : Result Unit DataFault) → Gained old mid text → CopiesAll behind mid new result → CopiesAll (text ++ behind) old new result
 wrote_all text behind old mid new (Ok done) first then = gained_both old mid new text behind first then
 wrote_all text behind old mid new (Err fault) first then = tt
 
@@ -74,23 +74,23 @@ stored_is (Some named) mid new name own text whole empty written files same made
 
 -- A FILE THAT WAS GIVEN UP
 
-pub left_dropped : (header : Header) (files : List FileSeen) (name : List ℕ) (counts now_counts : Counts) (old new : Option NamedFiles) (fault : RestoreFault) → new ≡ old → Leaves header files name counts now_counts old new (Err fault)
+pub left_dropped : (header : Header) (files : List FileSeen) (name : List ℕ) (counts now_counts : Counts) (old new : Option NamedFiles) (fault : DataFault) → new ≡ old → Leaves header files name counts now_counts old new (Err fault)
 left_dropped header files name counts now_counts old new (code.Read file) same = same
 left_dropped header files name counts now_counts old new code.Write same = inl same
 
 -- its faults are the folder's then
-pub caused_dropped : (fault : RestoreFault) (before now : List FileSeen) (faults faults_now first mid last : ℕ) → first ≤ mid → (0 < faults_now → Rose mid last)
+pub caused_dropped : (fault : DataFault) (before now : List FileSeen) (faults faults_now first mid last : ℕ) → first ≤ mid → (0 < faults_now → Rose mid last)
     → IsCaused (Err fault) before now faults faults_now → IsCaused (Err fault) before now first last
 caused_dropped (code.Read file) before now faults faults_now first mid last later faulty caused = caused
 caused_dropped code.Write before now faults faults_now first mid last later faulty caused =
     let rose = faulty (omega (arith, caused)) in
     omega (arith, rose, later)
 
-pub created_dropped : (fault : RestoreFault) (before now : ℕ) → now ≡ raised before 1 → CreatesOne before now (Err fault)
+pub created_dropped : (fault : DataFault) (before now : ℕ) → now ≡ raised before 1 → CreatesOne before now (Err fault)
 created_dropped (code.Read file) before now one = one
 created_dropped code.Write before now one = omega (arith, one)
 
-pub unfinished_dropped : (fault : RestoreFault) (before now : ℕ) → now ≡ before → LeavesUnfinished before now (Err fault)
+pub unfinished_dropped : (fault : DataFault) (before now : ℕ) → now ≡ before → LeavesUnfinished before now (Err fault)
 unfinished_dropped (code.Read file) before now same = same
 unfinished_dropped code.Write before now same = (omega (arith, same), omega (arith, same))
 

@@ -1,10 +1,11 @@
 -- What is read of the partial file and of the data files.
 use Rattle.std.specs.Prelude.{IfOk}
-use Rattle.std.proofs.Common.{◌≡◌, ◌≤◌, ◌+◌, ℕ, suc, List, [], ◌∷◌, length, get_or, map, Option, Some, None, Result, Ok, Err, refl, sym, subst, ◌∙◌, arith}
+use Rattle.std.proofs.Common.{◌≡◌, ◌≤◌, ◌+◌, ℕ, suc, List, [], ◌∷◌, length, get_or, map, Option, Some, None, Result, Ok, Err, refl, sym, ap, subst, ◌∙◌, arith}
 use Rattle.std.specs.Option.{IfSome}
 use Rattle.std.specs.Prelude.{option_and_then}
 use Rattle.std.specs.List.{All, sum_by}
 use Rattle.std.specs.FinMap.{get}
+use Rattle.std.proofs.lemmas.List.{length-map}
 use Rattle.std.proofs.lemmas.List.Elements.{All-cons, All-head, All-nil, All-tail, All-weaker}
 use Rattle.std.proofs.lemmas.List.Sums.{sum_by-cons}
 use Rattle.trace_outside.specs.Causes.{raised}
@@ -16,9 +17,9 @@ use Rattle.dat_options.specs.declared.fault.OpenFault.{OpenFault}
 use Rattle.dat_options.specs.declared.fault.OpenFault.TheVariants.{Read, Memory}
 use Rattle.dat_header.specs.declared.header.Header.{Header}
 use Rattle.dat_header.specs.Partial.{ReadsPartial, partial_of}
-use Rattle.restore_tool.specs.declared.named.Answer.{Answer}
-use Rattle.restore_tool.specs.declared.named.Answer.TheVariants as code
-use Rattle.restore_tool.specs.Answers.{IfMade, unread_of}
+use Rattle.restore_tool.specs.declared.named.RestoreFault.{RestoreFault}
+use Rattle.restore_tool.specs.declared.named.RestoreFault.TheVariants as code
+use Rattle.restore_tool.specs.Answers.{IfMade, fault_of_open}
 use Rattle.restore_tool.specs.Copying.{AllKeep, Keeps}
 use Rattle.restore_tool.specs.Meaning.{NamesData, texts_of}
 use Rattle.restore_tool.specs.Reads.{DataWithin, IsReadOnce, ReadsOnce, reads_of}
@@ -29,7 +30,7 @@ use Rattle.restore_tool.specs.Reads.{DataWithin, IsReadOnce, ReadsOnce, reads_of
 abbrev pub IsSized : FileSeen → Type 0
 IsSized file = IfSome file.bytes (λ bytes. length bytes ≡ file.size)
 
-pub all_sized : {F : Type 0} (f : F → FileSeen) (files : List F) → ((file : F) → IsSized (f file)) → All IsSized (map f files)
+all_sized : {F : Type 0} (f : F → FileSeen) (files : List F) → ((file : F) → IsSized (f file)) → All IsSized (map f files)
 all_sized f [] sized = All-nil IsSized
 all_sized f (file ∷ files) sized = All-cons IsSized (f file) (map f files) (sized file) (all_sized f files sized)
 
@@ -47,11 +48,11 @@ kept_once before now keeps unused sized = subst (λ (o : Option (List ℕ)). IfS
     by_bytes None sized = tt
     by_bytes (Some bytes) sized = omega (arith, keeps.reads, unused.reads, sized)
 
-pub all_kept_once : (before now : List FileSeen) → length now ≡ length before → AllKeep before now → All IsUnused before → All IsSized before → All IsReadOnce now
+all_kept_once : (before now : List FileSeen) → length now ≡ length before → AllKeep before now → All IsUnused before → All IsSized before → All IsReadOnce now
 all_kept_once before now long keep unused sized i d lt =
     kept_once (get_or before i d) (get_or now i d) (keep i d (omega (arith, lt, long))) (unused i d (omega (arith, lt, long))) (sized i d (omega (arith, lt, long)))
 
-pub kept_files : (told : Option NamedFiles) (names : List (List ℕ)) (before now : List FileSeen) → length now ≡ length before → AllKeep before now → AreFilesOf told names before → AreFilesOf told names now
+kept_files : (told : Option NamedFiles) (names : List (List ℕ)) (before now : List FileSeen) → length now ≡ length before → AllKeep before now → AreFilesOf told names before → AreFilesOf told names now
 kept_files told names before now long keep are i d e lt =
     subst (λ (bytes : Option (List ℕ)). IsFileOf told (get_or names i d) bytes) (sym (keep i e (omega (arith, lt, long))).bytes) (are i d e (omega (arith, lt, long)))
 
@@ -93,6 +94,18 @@ pub data_within : (told : Option NamedFiles) (names : NamesData) (files : List F
 data_within None names files are once few = tt
 data_within (Some named) names files are once few = reads_within named names.files files are once few
 
+-- they were opened, and kept as they were read
+pub data_read : {F : Type 0} (f : F → FileSeen) (told : Option NamedFiles) (names : NamesData) (opened slice now : List F) → slice ≡ opened → length now ≡ length slice → length opened ≡ length names.files
+    → ((file : F) → IsSized (f file)) → AreFilesOf told names.files (map f opened) → All IsUnused (map f opened) → AllKeep (map f slice) (map f now)
+    → IfSome told (λ named. DataWithin named names (λ size. reads_of (map f now) ≤ size))
+data_read {F} f told names opened slice now is each all sized are unused keep =
+    let same : length (map f now) ≡ length (map f slice) = omega (arith, length-map slice f, length-map now f, each) in
+    let own = subst (λ (xs : List F). AreFilesOf told names.files (map f xs)) (sym is) are in
+    let fresh = subst (λ (xs : List F). All IsUnused (map f xs)) (sym is) unused in
+    let long : length slice ≡ length opened = ap length is in
+    data_within told names (map f now) (kept_files told names.files (map f slice) (map f now) same keep own) (all_kept_once (map f slice) (map f now) same keep fresh (all_sized f slice sized))
+    (omega (arith, length-map now f, each, long, all))
+
 -- no file is open
 pub none_within : (told : Option NamedFiles) (names : NamesData) (files : List FileSeen) → length files ≡ 0 → IfSome told (λ named. DataWithin named names (λ size. reads_of files ≤ size))
 none_within told names files none = data_within told names files (λ i d e lt. absurd (omega (arith, lt, none))) (λ i d lt. absurd (omega (arith, lt, none))) (omega (arith, none))
@@ -122,20 +135,15 @@ closed_within (Some named) names files before mid now same counted within =
 
 -- THE PARTIAL FILE
 
-pub made_anyhow : (answer : Answer) (P : Type 0) → P → IfMade answer P
-made_anyhow code.Done P p = p
-made_anyhow (code.Refused fault) P p = tt
-made_anyhow (code.Read source) P p = tt
-made_anyhow code.Write P p = p
-made_anyhow code.NoMemory P p = tt
+pub made_anyhow : (result : Result Unit RestoreFault) (P : Type 0) → P → IfMade result P
+made_anyhow (Ok done) P p = p
+made_anyhow (Err code.Write) P p = p
+made_anyhow (Err fault) P p = tt
 
-pub unread_unmade : (fault : OpenFault) (answer : Answer) (P : Type 0) → answer ≡ unread_of fault → IfMade answer P
-unread_unmade fault answer P is = subst (λ (a : Answer). IfMade a P) (sym is) (by_fault fault)
-  where
-    by_fault : (f : OpenFault) → IfMade (unread_of f) P
-    by_fault Read = tt
-    by_fault Memory = tt
-    by_fault f = tt
+pub unread_unmade : (fault : OpenFault) (P : Type 0) → IfMade (Err (fault_of_open fault)) P
+unread_unmade Read P = tt
+unread_unmade Memory P = tt
+unread_unmade fault P = tt
 
 pub header_within : (told : Option (List ℕ)) (header : Header) (reads now : ℕ) → ReadsPartial told (Ok header) → now ≤ raised reads header.end
     → IfSome told (λ bytes. IfOk (partial_of bytes) (λ found. now ≤ raised reads found.end))
@@ -143,10 +151,10 @@ header_within None header reads now is few = tt
 header_within (Some bytes) header reads now is few = subst (λ (r : Result Header OpenFault). IfOk r (λ found. now ≤ raised reads found.end)) (sym is) few
 
 -- both
-pub read_once : (names : NamesData) (answer : Answer) (old first : Option NamedFiles) (told : Option (List ℕ)) (start opened worked last none reads : ℕ) → first ≡ old → IsFileOf old names.partial told → opened ≡ start → none ≡ 0
+pub read_once : (names : NamesData) (result : Result Unit RestoreFault) (old first : Option NamedFiles) (told : Option (List ℕ)) (start opened worked last none reads : ℕ) → first ≡ old → IsFileOf old names.partial told → opened ≡ start → none ≡ 0
     → last ≡ raised worked reads → IfSome first (λ named. DataWithin named names (λ size. worked ≤ raised opened size))
-    → IfMade answer (IfSome told (λ bytes. IfOk (partial_of bytes) (λ header. reads ≤ raised none header.end))) → IfMade answer (IfSome old (λ named. ReadsOnce named names start last))
-read_once names answer old first told start opened worked last none reads same is so_far unread counted sizes header = by_answer answer header
+    → IfMade result (IfSome told (λ bytes. IfOk (partial_of bytes) (λ header. reads ≤ raised none header.end))) → IfMade result (IfSome old (λ named. ReadsOnce named names start last))
+read_once names result old first told start opened worked last none reads same is so_far unread counted sizes header = by_end result header
   where
     by_result : (named : NamedFiles) (r : Result Header OpenFault) → DataWithin named names (λ size. worked ≤ raised opened size) → IfOk r (λ header. reads ≤ raised none header.end)
         → IfOk r (λ header. DataWithin named names (λ size. last ≤ raised start (header.end + size)))
@@ -168,9 +176,7 @@ read_once names answer old first told start opened worked last none reads same i
     here : IfSome old (λ named. DataWithin named names (λ size. worked ≤ raised opened size))
     here = subst (λ (o : Option NamedFiles). IfSome o (λ named. DataWithin named names (λ size. worked ≤ raised opened size))) same sizes
 
-    by_answer : (a : Answer) → IfMade a (IfSome told (λ bytes. IfOk (partial_of bytes) (λ header. reads ≤ raised none header.end))) → IfMade a (IfSome old (λ named. ReadsOnce named names start last))
-    by_answer code.Done header = all old is here header
-    by_answer (code.Refused fault) header = tt
-    by_answer (code.Read source) header = tt
-    by_answer code.Write header = all old is here header
-    by_answer code.NoMemory header = tt
+    by_end : (a : Result Unit RestoreFault) → IfMade a (IfSome told (λ bytes. IfOk (partial_of bytes) (λ header. reads ≤ raised none header.end))) → IfMade a (IfSome old (λ named. ReadsOnce named names start last))
+    by_end (Ok done) header = all old is here header
+    by_end (Err code.Write) header = all old is here header
+    by_end (Err fault) header = tt

@@ -1,5 +1,5 @@
 -- What is promised where a file could not be opened or read, or there was no memory, so that nothing was made.
-use Rattle.std.proofs.Common.{◌≡◌, ◌≢◌, ◌⊎◌, ℕ, ◌≤◌, List, Option, Some, None, Result, Err, inl, inr, refl, sym, ap, subst, ◌∙◌, arith}
+use Rattle.std.proofs.Common.{◌≡◌, ◌≢◌, ◌⊎◌, ℕ, ◌≤◌, List, Option, Some, None, Result, Err, inl, inr, refl, ap, ◌∙◌, arith}
 use Rattle.std.specs.Option.{IfSome}
 use Rattle.trace_outside.specs.declared.counts.Counts.{Counts}
 use Rattle.trace_outside.specs.Causes.{Rose}
@@ -11,50 +11,38 @@ use Rattle.dat_options.specs.declared.fault.OpenFault.TheVariants.{Read, Memory}
 use Rattle.dat_options.specs.Answer.{AnswersUnlessFaulty}
 use Rattle.dat_header.specs.declared.header.Header.{Header}
 use Rattle.dat_header.specs.Partial.{ReadsPartial, partial_of}
-use Rattle.restore_tool.specs.declared.named.Answer.{Answer}
-use Rattle.restore_tool.specs.Answers.{Causes, ClosesAll, Created, KeepsFiles, unread_of}
+use Rattle.restore_tool.specs.Answers.{Causes, ClosesAll, Created, KeepsFiles, fault_of_open}
 use Rattle.restore_tool.specs.Meaning.{IsDone, NamesData, missing, with_header, with_texts, texts_of}
 use Rattle.restore_tool.proofs.Answered.{not_missing}
 
 -- THE HEADER OF THE PARTIAL FILE
 
 task_unread : (names : NamesData) (output : List ℕ) (start now : Counts) (named : NamedFiles) (new : Option NamedFiles) (expected : Result Header OpenFault) (fault : OpenFault)
-    → AnswersUnlessFaulty {T = Header} (Err fault) expected → new ≡ Some named → now.created ≡ start.created → IsDone (with_header named names expected) output start now named new (unread_of fault)
+    → AnswersUnlessFaulty {T = Header} (Err fault) expected → new ≡ Some named → now.created ≡ start.created → IsDone (with_header named names expected) output start now named new (Err (fault_of_open fault))
 task_unread names output start now named new expected Read reads same few = (same, omega (arith, few))
 task_unread names output start now named new expected Memory reads same few = same
 task_unread names output start now named new expected fault reads same few = (ap (with_header named names) reads, same)
 
-pub partial_unread : (names : NamesData) (output : List ℕ) (start now : Counts) (old new : Option NamedFiles) (bytes : Option (List ℕ)) (fault : OpenFault) (answer : Answer) → answer ≡ unread_of fault
-    → ReadsPartial bytes (Err fault) → new ≡ old → now.created ≡ start.created → IfSome old (λ named. IfSome bytes (λ bs. IsDone (with_header named names (partial_of bs)) output start now named new answer))
-partial_unread names output start now None new bytes fault answer is reads same few = tt
-partial_unread names output start now (Some named) new None fault answer is reads same few = tt
-partial_unread names output start now (Some named) new (Some bs) fault answer is reads same few =
-    subst (λ (a : Answer). IsDone (with_header named names (partial_of bs)) output start now named new a) (sym is)
-    (task_unread names output start now named new (partial_of bs) fault reads same few)
+pub partial_unread : (names : NamesData) (output : List ℕ) (start now : Counts) (old new : Option NamedFiles) (bytes : Option (List ℕ)) (fault : OpenFault)
+    → ReadsPartial bytes (Err fault) → new ≡ old → now.created ≡ start.created → IfSome old (λ named. IfSome bytes (λ bs. IsDone (with_header named names (partial_of bs)) output start now named new (Err (fault_of_open fault))))
+partial_unread names output start now None new bytes fault reads same few = tt
+partial_unread names output start now (Some named) new None fault reads same few = tt
+partial_unread names output start now (Some named) new (Some bs) fault reads same few = task_unread names output start now named new (partial_of bs) fault reads same few
 
-pub unread_causes : (fault : OpenFault) (answer : Answer) (reading writing : Type 0) → answer ≡ unread_of fault → (fault ≡ Read → reading) → Causes answer reading writing
-unread_causes fault answer reading writing is read = subst (λ (a : Answer). Causes a reading writing) (sym is) (by_fault fault read)
-  where
-    by_fault : (f : OpenFault) → (f ≡ Read → reading) → Causes (unread_of f) reading writing
-    by_fault Read read = read refl
-    by_fault Memory read = tt
-    by_fault f read = tt
+pub unread_causes : (fault : OpenFault) (reading writing : Type 0) → (fault ≡ Read → reading) → Causes (Err (fault_of_open fault)) reading writing
+unread_causes Read reading writing read = read refl
+unread_causes Memory reading writing read = tt
+unread_causes fault reading writing read = tt
 
-pub unread_created : (fault : OpenFault) (answer : Answer) (before now : ℕ) → answer ≡ unread_of fault → now ≡ before → Created answer before now
-unread_created fault answer before now is same = subst (λ (a : Answer). Created a before now) (sym is) (by_fault fault)
-  where
-    by_fault : (f : OpenFault) → Created (unread_of f) before now
-    by_fault Read = omega (arith, same)
-    by_fault Memory = same
-    by_fault f = same
+pub unread_created : (fault : OpenFault) (before now : ℕ) → now ≡ before → Created (Err (fault_of_open fault)) before now
+unread_created Read before now same = omega (arith, same)
+unread_created Memory before now same = same
+unread_created fault before now same = same
 
-pub unread_kept : (fault : OpenFault) (answer : Answer) (old : Option NamedFiles) → answer ≡ unread_of fault → KeepsFiles answer old old
-unread_kept fault answer old is = subst (λ (a : Answer). KeepsFiles a old old) (sym is) (by_fault fault)
-  where
-    by_fault : (f : OpenFault) → KeepsFiles (unread_of f) old old
-    by_fault Read = refl
-    by_fault Memory = refl
-    by_fault f = refl
+pub unread_kept : (fault : OpenFault) (old : Option NamedFiles) → KeepsFiles (Err (fault_of_open fault)) old old
+unread_kept Read old = refl
+unread_kept Memory old = refl
+unread_kept fault old = refl
 
 -- COUNTS AND NAMES
 

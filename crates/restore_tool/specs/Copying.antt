@@ -5,8 +5,8 @@ use Rattle.trace_outside.specs.Causes.{Rose, raised}
 use Rattle.trace_outside.specs.Writing.{Gained}
 use Rattle.trace_outside.specs.declared.outside.File as file
 use Rattle.trace_outside.specs.Seen.{FileSeen, file_seen}
-use Rattle.restore_tool.specs.declared.copying.RestoreFault.{RestoreFault}
-use Rattle.restore_tool.specs.declared.copying.RestoreFault.TheVariants as code
+use Rattle.restore_tool.specs.declared.copying.DataFault.{DataFault}
+use Rattle.restore_tool.specs.declared.copying.DataFault.TheVariants as code
 
 abbrev pub files_seen : {F : Type 0} → file.Ghosts F → List F → List FileSeen
 files_seen f files = map (file_seen f) files
@@ -34,11 +34,11 @@ abbrev pub IsOneCopied : {T E : Type 0} → List ℕ → FileSeen → Option (Li
 IsOneCopied front file old new result = OnOk result (IfSome file.bytes (λ bytes. Gained old new (front ++ bytes)))
 
 -- all of the text was written; after a fault nothing is said of what was
-abbrev pub CopiesAll : List ℕ → Option (List ℕ) → Option (List ℕ) → Result Unit RestoreFault → Type 0
+abbrev pub CopiesAll : List ℕ → Option (List ℕ) → Option (List ℕ) → Result Unit DataFault → Type 0
 CopiesAll text old new result = OnOk result (Gained old new text)
 
 -- a fault is told only where its count rose: that of this very file, or of what is written
-abbrev pub IsCaused : Result Unit RestoreFault → List FileSeen → List FileSeen → ℕ → ℕ → Type 0
+abbrev pub IsCaused : Result Unit DataFault → List FileSeen → List FileSeen → ℕ → ℕ → Type 0
 IsCaused (Ok done) before now faults faults_now = Unit {0}
 IsCaused (Err (code.Read file)) before now faults faults_now =
     (file < length before) × ((d : FileSeen) → Rose (slice_index_or before file d).faults (slice_index_or now file d).faults)

@@ -1,11 +1,11 @@
--- Which file an answer names that could not be opened or read.
-use Rattle.std.specs.Prelude.{Option, ◌≡◌, ◌<◌, ◌⊎◌, ℕ, zero, suc, List, ◌∷◌, length, slice_index_or, IfSome, IsSome}
+-- Which file a fault names that could not be opened or read.
+use Rattle.std.specs.Prelude.{Option, Result, Err, ◌≡◌, ◌<◌, ◌⊎◌, ℕ, zero, suc, List, ◌∷◌, length, slice_index_or, IfSome, IsSome}
 use Rattle.std.specs.FinMap.{get}
 use Rattle.trace_outside.specs.Folders.{misses_after}
 use Rattle.trace_outside.specs.Names.{NamedFiles}
 use Rattle.trace_outside.specs.Seen.{FileSeen}
-use Rattle.restore_tool.specs.declared.named.Answer.{Answer}
-use Rattle.restore_tool.specs.declared.named.Answer.TheVariants as code
+use Rattle.restore_tool.specs.declared.named.RestoreFault.{RestoreFault}
+use Rattle.restore_tool.specs.declared.named.RestoreFault.TheVariants as code
 use Rattle.restore_tool.specs.declared.named.Source.{Source}
 use Rattle.restore_tool.specs.declared.named.Source.TheVariants as source_code
 use Rattle.restore_tool.specs.Meaning.{NamesData}
@@ -40,10 +40,7 @@ IsFaulty failed held source_code.Partial = ⊥
 IsFaulty failed held (source_code.File file) =
     ((file ≡ length held) × failed) ⊎ ((file < length held) × ((d : FileSeen) → 0 < (slice_index_or held file d).faults))
 
--- this holds of the file that an answer names as one that could not be opened or read
-abbrev pub IfRead : Answer → (Source → Type 0) → Type 0
-IfRead code.Done claim = Unit {0}
-IfRead (code.Refused fault) claim = Unit {0}
-IfRead (code.Read source) claim = claim source
-IfRead code.Write claim = Unit {0}
-IfRead code.NoMemory claim = Unit {0}
+-- this holds of the file that a fault names as one that could not be opened or read
+abbrev pub IfRead : Result Unit RestoreFault → (Source → Type 0) → Type 0
+IfRead (Err (code.Read source)) claim = claim source
+IfRead result claim = Unit {0}

@@ -11,8 +11,8 @@ use Rattle.dat_header.specs.declared.header.Header.{Header}
 use Rattle.dat_header.specs.Partial.{partial_of}
 use Rattle.new_files.specs.Stored.{IsUnmade, NewFile}
 use Rattle.restore_tool.specs.declared.named.Names.{Names}
-use Rattle.restore_tool.specs.declared.named.Answer.{Answer}
-use Rattle.restore_tool.specs.declared.named.Answer.TheVariants as code
+use Rattle.restore_tool.specs.declared.named.RestoreFault.{RestoreFault}
+use Rattle.restore_tool.specs.declared.named.RestoreFault.TheVariants as code
 use Rattle.restore_tool.specs.Restored.{for_processors, restored}
 
 -- the names, as plain data
@@ -75,11 +75,11 @@ IsToMake missing output = ⊥
 IsToMake (refused fault) output = ⊥
 IsToMake (made file) output = file.name ≡ output
 
--- What was done of a task, by the answer: all of it, or nothing. Only where finishing the file failed nothing is said of its name.
+-- What was done of a task, by the result: all of it, or nothing. Only where finishing the file failed nothing is said of its name.
 -- Nothing is created where there is nothing to make.
-abbrev pub IsDone : Task → List ℕ → Counts → Counts → NamedFiles → Option NamedFiles → Answer → Type 0
-IsDone task output counts now_counts named new code.Done = IsMade task named new
-IsDone task output counts now_counts named new (code.Refused fault) = (task ≡ refused fault) × (new ≡ Some named)
-IsDone task output counts now_counts named new (code.Read source) = (new ≡ Some named) × (now_counts.created ≤ raised counts.created (files_in task))
-IsDone task output counts now_counts named new code.Write = IsToMake task output × IsUnmade counts.unfinished now_counts.unfinished output (Some named) new
-IsDone task output counts now_counts named new code.NoMemory = new ≡ Some named
+abbrev pub IsDone : Task → List ℕ → Counts → Counts → NamedFiles → Option NamedFiles → Result Unit RestoreFault → Type 0
+IsDone task output counts now_counts named new (Ok done) = IsMade task named new
+IsDone task output counts now_counts named new (Err (code.Refused fault)) = (task ≡ refused fault) × (new ≡ Some named)
+IsDone task output counts now_counts named new (Err (code.Read source)) = (new ≡ Some named) × (now_counts.created ≤ raised counts.created (files_in task))
+IsDone task output counts now_counts named new (Err code.Write) = IsToMake task output × IsUnmade counts.unfinished now_counts.unfinished output (Some named) new
+IsDone task output counts now_counts named new (Err code.NoMemory) = new ≡ Some named

@@ -7,15 +7,15 @@ ghost use Rattle.trace_outside.specs.Seen.{file_seen};
 ghost use Rattle.new_files.specs.Padding.{IsPage, zeros};
 ghost use Rattle.restore_tool.specs.Copying.{AllKeep, AllTold, CopiesAll, IsCaused, IsOneCopied, Keeps, files_seen, text_of};
 ghost use Rattle.restore_tool.specs.Restored.{data_behind};
-ghost use Rattle.restore_tool.specs.declared.copying.RestoreFault.TheVariants.{Write};
+ghost use Rattle.restore_tool.specs.declared.copying.DataFault.TheVariants.{Write};
 
 use new_files::{gap, write_zeros};
 use thiserror::Error;
 use trace_outside::{CopyFault, Failed, File, Sink, copy_rest};
 
-/// Why no file was restored.
+/// What fails of the work on files that are open.
 #[derive(Clone, Copy, Debug, PartialEq, Eq, Error)]
-pub enum RestoreFault {
+pub enum DataFault {
     /// A read of this data file failed, counted from 0.
     #[error("read of data file {file} failed")]
     Read { file: u32 },
@@ -25,11 +25,11 @@ pub enum RestoreFault {
 }
 
 /// What fails by itself is a call on the new file: a read tells its file.
-impl From<Failed> for RestoreFault {
+impl From<Failed> for DataFault {
     ghost from_gives = { λ failed fault. fault ≡ Write };
 
-    fn from(_failed: Failed) -> RestoreFault {
-        RestoreFault::Write
+    fn from(_failed: Failed) -> DataFault {
+        DataFault::Write
     }
 }
 
@@ -61,7 +61,7 @@ pub(crate) fn copy_files<F: File, O: Sink>(
     files: &mut [F],
     buffer: &mut [u8],
     out: &mut O,
-) -> Result<(), RestoreFault>
+) -> Result<(), DataFault>
     requires page { IsPage page }
     requires few { length files.old ≤ 256 }
     requires room { 0 < length buffer.old }
@@ -77,8 +77,8 @@ pub(crate) fn copy_files<F: File, O: Sink>(
         let missing = gap(page, place);
         match copy_file(missing, &mut files[i], buffer, out) {
             Ok(()) => {}
-            Err(CopyFault::Read) => return Err(RestoreFault::Read { file: i as u32 }),
-            Err(CopyFault::Write) => return Err(RestoreFault::Write),
+            Err(CopyFault::Read) => return Err(DataFault::Read { file: i as u32 }),
+            Err(CopyFault::Write) => return Err(DataFault::Write),
         }
         place = place
             .wrapping_add(u64::from(missing))

@@ -14,8 +14,8 @@ mod placing;
 mod processors;
 mod restoring;
 
-pub use copying::RestoreFault;
+pub use copying::DataFault;
 pub use frame::{close_files, open_files};
-pub use named::{Answer, Names, Source, restore_named};
+pub use named::{Names, RestoreFault, Source, restore_named};
 pub use processors::{blank_parts, for_processors};
 pub use restoring::restore;

@@ -7,18 +7,20 @@ ghost use Rattle.trace_outside.specs.Open.{AreThere};
 ghost use Rattle.dat_header.specs.Allowed.{IsHeader};
 ghost use Rattle.dat_header.specs.Partial.{partial_of};
 ghost use Rattle.restore_tool.specs.Copying.{files_seen};
-ghost use Rattle.restore_tool.specs.Answers.{Causes, ClosesAll, Created, IfMade, IfNoMemory, KeepsFiles, LeavesOpen, answer_of, unread_of};
+ghost use Rattle.restore_tool.specs.Answers.{Causes, ClosesAll, Created, IfMade, IfNoMemory, KeepsFiles, LeavesOpen, fault_of_data, fault_of_open};
 ghost use Rattle.restore_tool.specs.Asked.{AsksFor, asked_behind, asked_of};
 ghost use Rattle.restore_tool.specs.Failing.{IfRead, IsFaulty, IsUnread, IsUnreadBehind, inputs_of, place_of};
 ghost use Rattle.restore_tool.specs.Meaning.{IsDone, missing, names_view, task_of, texts_of, with_header, with_texts};
 ghost use Rattle.restore_tool.specs.Reads.{DataWithin, ReadsOnce, reads_of};
 
-use crate::copying::RestoreFault;
+use crate::copying::DataFault;
 use crate::frame::{close_files, open_files};
 use crate::processors::{blank_parts, for_processors};
 use crate::restoring::restore;
 use dat_header::{Header, OpenFault, read_partial};
 use std::alloc::Global;
+use std::fmt;
+use thiserror::Error;
 use trace_outside::{Failed, Folder};
 
 /// How many bytes of a data file are copied at once.
@@ -44,29 +46,53 @@ pub enum Source {
     File(u32),
 }
 
-/// What came of a restoring.
-#[derive(Clone, Copy, Debug, PartialEq, Eq)]
-pub enum Answer {
-    /// The file is finished.
-    Done,
+impl fmt::Display for Source {
+    fn fmt<W: fmt::Write>(&self, f: &mut fmt::Formatter<W>) -> fmt::Result {
+        match self {
+            Source::Partial => f.write_str("the partial file"),
+            Source::File(file) => write!(f, "data file {file}"),
+        }
+    }
+}
+
+/// Why no file was restored.
+#[derive(Clone, Copy, Debug, PartialEq, Eq, Error)]
+pub enum RestoreFault {
     /// The partial file has no header, and what is wrong with it; never `Read` or `Memory`.
+    #[error("bad partial file: {0}")]
     Refused(OpenFault),
     /// This file could not be opened, or a read of it failed.
+    #[error("read of {0} failed")]
     Read(Source),
     /// The new file could not be created, written or finished.
+    #[error("write failed")]
     Write,
     /// There was no memory, and nothing was created.
+    #[error("out of memory")]
     NoMemory,
 }
 
-// What came of the work on the new file.
-fn answer_of(end: Result<(), RestoreFault>) -> Answer
-    ensures { result ≡ answer_of end }
-{
-    match end {
-        Ok(()) => Answer::Done,
-        Err(RestoreFault::Read { file }) => Answer::Read(Source::File(file)),
-        Err(RestoreFault::Write) => Answer::Write,
+impl From<DataFault> for RestoreFault {
+    ghost from_gives = { λ failed fault. fault ≡ fault_of_data failed };
+
+    fn from(fault: DataFault) -> RestoreFault {
+        match fault {
+            DataFault::Read { file } => RestoreFault::Read(Source::File(file)),
+            DataFault::Write => RestoreFault::Write,
+        }
+    }
+}
+
+/// What comes of a partial file whose header could not be read.
+impl From<OpenFault> for RestoreFault {
+    ghost from_gives = { λ opened fault. fault ≡ fault_of_open opened };
+
+    fn from(fault: OpenFault) -> RestoreFault {
+        match fault {
+            OpenFault::Read => RestoreFault::Read(Source::Partial),
+            OpenFault::Memory => RestoreFault::NoMemory,
+            fault => RestoreFault::Refused(fault),
+        }
     }
 }
 
@@ -77,7 +103,7 @@ fn restore_data<D: Folder>(
     header: Header,
     files: &mut Vec<D::In>,
     folder: &mut D,
-) -> Answer
+) -> Result<(), RestoreFault>
     requires few { length names.now.files.now ≤ 256 }
     requires allowed { IsHeader header }
     requires none { files.old.items ≡ [] }
@@ -102,21 +128,21 @@ fn restore_data<D: Folder>(
         blank_parts(alloc, cpus),
         vec![in alloc; 0u8; BUFFER],
     ) else {
-        return Answer::NoMemory;
+        return Err(RestoreFault::NoMemory);
     };
     match open_files(names.files, files, folder) {
         Ok(()) => {}
-        Err(Failed) => return Answer::Read(Source::File(files.len() as u32)),
+        Err(Failed) => return Err(RestoreFault::Read(Source::File(files.len() as u32))),
     }
-    let end = restore(
+    restore(
         &header,
         files.as_mut_slice(),
         parts.as_mut_slice(),
         buffer.as_mut_slice(),
         names.output,
         folder,
-    );
-    answer_of(end)
+    )?;
+    Ok(())
 }
 
 // Makes the new file under this header, and closes the data files.
@@ -125,7 +151,7 @@ fn restore_under<D: Folder>(
     names: &Names<'_>,
     header: Header,
     folder: &mut D,
-) -> Answer
+) -> Result<(), RestoreFault>
     requires few { length names.now.files.now ≤ 256 }
     requires allowed { IsHeader header }
     ensures done { IfSome (D.files folder.old) (λ named. IsDone (with_texts header names.now.output.now (texts_of named (names_view names.now).files)) names.now.output.now
@@ -141,11 +167,11 @@ fn restore_under<D: Folder>(
     ensures counts { ClosesAll (length names.now.files.now) (D.counts folder.old) (D.counts folder.new) }
 {
     let Ok(mut files) = Vec::with_capacity(alloc, names.files.len()) else {
-        return Answer::NoMemory;
+        return Err(RestoreFault::NoMemory);
     };
-    let answer = restore_data::<D>(alloc, names, header, &mut files, folder);
+    let restored = restore_data::<D>(alloc, names, header, &mut files, folder);
     close_files(files, folder);
-    answer
+    restored
 }
 
 // Reads the header of the partial file, which was just opened, and makes the new file under it.
@@ -154,7 +180,7 @@ fn restore_from<D: Folder>(
     names: &Names<'_>,
     partial: &mut D::In,
     folder: &mut D,
-) -> Answer
+) -> Result<(), RestoreFault>
     requires few { length names.now.files.now ≤ 256 }
     ensures done { IfSome (D.files folder.old) (λ named. IfSome (D.In.bytes partial.old) (λ bytes. IsDone (with_header named (names_view names.now) (partial_of bytes)) names.now.output.now
         (D.counts folder.old) (D.counts folder.new) named (D.files folder.new) result)) }
@@ -172,32 +198,25 @@ fn restore_from<D: Folder>(
     ensures header_reads { IfMade result (IfSome (D.In.bytes partial.old) (λ bytes. IfOk (partial_of bytes) (λ header. D.In.reads partial.new ≤ raised (D.In.reads partial.old) header.end))) }
     ensures counts { ClosesAll (length names.now.files.now) (D.counts folder.old) (D.counts folder.new) }
 {
-    match read_partial(alloc, partial) {
-        Ok(header) => restore_under(alloc, names, header, folder),
-        Err(fault) => unread_of(fault),
-    }
-}
-
-// What comes of a partial file whose header could not be read.
-fn unread_of(fault: OpenFault) -> Answer
-    ensures { result ≡ unread_of fault }
-{
-    match fault {
-        OpenFault::Read => Answer::Read(Source::Partial),
-        OpenFault::Memory => Answer::NoMemory,
-        fault => Answer::Refused(fault),
-    }
+    let header = read_partial(alloc, partial)?;
+    restore_under(alloc, names, header, folder)
 }
 
 /// Makes a trace file of a partial file and of the data files of its processors, all told by their names in a folder
 /// (trace-cmd-restore(1)).
 ///
 /// The partial file is opened first and then the data files, in order, before anything is created; all stay open until the end,
-/// so that the new file may have the name of one of them, and all are closed then. The first file that is missing or has no
-/// header decides, and is the one that the answer names; where all are there, it names the one that could not be opened or
-/// read. After a fault every name is as it was, unless finishing the new file failed. Of the partial file no more is read than
-/// its header, and each data file once.
-pub fn restore_named<D: Folder>(alloc: Global, names: &Names<'_>, folder: &mut D) -> Answer
+/// so that the new file may have the name of one of them, and all are closed then. Of the partial file no more is read than its
+/// header, and each data file once.
+///
+/// # Errors
+/// The first file that is missing or has no header decides, and is the one that the fault names; where all are there, it names
+/// the one that could not be opened or read. After a fault every name is as it was, unless finishing the new file failed.
+pub fn restore_named<D: Folder>(
+    alloc: Global,
+    names: &Names<'_>,
+    folder: &mut D,
+) -> Result<(), RestoreFault>
     requires few { length names.now.files.now ≤ 256 }
     ensures done { IfSome (D.files folder.old) (λ named. IsDone (task_of named (names_view names.now)) names.now.output.now
         (D.counts folder.old) (D.counts folder.new) named (D.files folder.new) result) }
@@ -212,11 +231,11 @@ pub fn restore_named<D: Folder>(alloc: Global, names: &Names<'_>, folder: &mut D
     ensures counts { ClosesAll (length names.now.files.now + 1) (D.counts folder.old) (D.counts folder.new) }
 {
     match folder.open_file(names.partial) {
-        Err(Failed) => Answer::Read(Source::Partial),
+        Err(Failed) => Err(RestoreFault::Read(Source::Partial)),
         Ok(mut partial) => {
-            let answer = restore_from(alloc, names, &mut partial, folder);
+            let restored = restore_from(alloc, names, &mut partial, folder);
             folder.close_file(partial);
-            answer
+            restored
         }
     }
 }

@@ -10,7 +10,7 @@ ghost use Rattle.restore_tool.specs.Copying.{AllKeep, AllTold, CopiesAll, IsCaus
 ghost use Rattle.restore_tool.specs.Restored.{data_behind};
 ghost use Rattle.restore_tool.specs.Restoring.{CreatesOne, Leaves, LeavesUnfinished};
 
-use crate::copying::{RestoreFault, copy_files};
+use crate::copying::{DataFault, copy_files};
 use crate::placing::place_files;
 use dat_header::{Header, header_len, write_header};
 use trace_base::Part;
@@ -23,7 +23,7 @@ fn write_whole<D: Folder>(
     files: &mut [D::In],
     buffer: &mut [u8],
     out: &mut D::Out,
-) -> Result<(), RestoreFault>
+) -> Result<(), DataFault>
     requires allowed { IsHeader header.now }
     requires each { length parts.now ≡ header.now.cpus }
     requires few { length files.old ≤ 256 }
@@ -43,8 +43,10 @@ fn write_whole<D: Folder>(
 /// Makes a trace file of this name from a header and one data file a processor (trace-cmd-restore(1)).
 ///
 /// `parts` is lent for the table; what it holds does not count. The name may be that of a data file, since the new file takes its
-/// place at the end alone. After `Read` and `Write` every name is as it was, unless finishing the file failed. Nothing here takes
-/// memory.
+/// place at the end alone. Nothing here takes memory.
+///
+/// # Errors
+/// After `Read` and `Write` every name is as it was, unless finishing the file failed.
 pub fn restore<D: Folder>(
     header: &Header,
     files: &mut [D::In],
@@ -52,7 +54,7 @@ pub fn restore<D: Folder>(
     buffer: &mut [u8],
     name: &str,
     folder: &mut D,
-) -> Result<(), RestoreFault>
+) -> Result<(), DataFault>
     requires allowed { IsHeader header.now }
     requires cpus { header.now.cpus ≡ length files.old }
     requires each { length parts.old ≡ length files.old }
