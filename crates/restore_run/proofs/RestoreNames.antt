@@ -1,9 +1,10 @@
 -- The file that a restore names.
 use Rattle.std.proofs.Common.{◌≡◌, ◌<◌, ◌≤◌, ◌∙◌, ℕ, suc, List, ◌∷◌, length, get_or, map, Result, Ok, Err, refl, sym, ap, subst, arith}
 use Rattle.std.proofs.lemmas.List.{get_or-map}
+use Rattle.trace_outside.specs.Open.{IsUnread}
 use Rattle.restore_tool.specs.declared.named.RestoreFault.{RestoreFault}
 use Rattle.restore_tool.specs.declared.named.RestoreFault.TheVariants as code
-use Rattle.restore_tool.specs.Failing.{IfRead, IsUnread, place_of}
+use Rattle.restore_tool.specs.Failing.{IfRead, place_of}
 use Rattle.trace_args.specs.Command.{RestoreData}
 use Rattle.run_endings.specs.declared.status.Status.{Status}
 use Rattle.restore_run.specs.Naming.{IsNameAt, IsNameOf, IsRestoreNamed, restore_inputs}

@@ -1,8 +1,9 @@
 -- Which file the message about a restore names.
 use Rattle.std.specs.Prelude.{Result, Err, ◌≡◌, ◌<◌, Contains, ℕ, List, length, slice_index_or}
+use Rattle.trace_outside.specs.Open.{IsUnread}
 use Rattle.restore_tool.specs.declared.named.RestoreFault.{RestoreFault}
 use Rattle.restore_tool.specs.declared.named.RestoreFault.TheVariants as code
-use Rattle.restore_tool.specs.Failing.{IsUnread, inputs_of, place_of}
+use Rattle.restore_tool.specs.Failing.{inputs_of, place_of}
 use Rattle.trace_args.specs.Command.{RestoreData}
 use Rattle.run_endings.specs.declared.status.Status.{Status}
 use Rattle.run_endings.specs.declared.status.Status.TheVariants.{ReadFault}

@@ -10,7 +10,7 @@ use Rattle.trace_outside.specs.Causes.{Rose, raised}
 use Rattle.trace_outside.specs.Folders.{Closes, IsFileOf, misses_after}
 use Rattle.trace_outside.specs.Names.{NamedFiles}
 use Rattle.trace_outside.specs.Seen.{FileSeen}
-use Rattle.trace_outside.specs.Open.{AreFilesOf, AreThere, ClosesMany}
+use Rattle.trace_outside.specs.Open.{AreFilesOf, AreThere, ClosesMany, SomeFaulty}
 use Rattle.dat_options.specs.declared.fault.OpenFault.{OpenFault}
 use Rattle.dat_header.specs.declared.header.Header.{Header}
 use Rattle.dat_header.specs.Partial.{ReadsPartial, partial_of}
@@ -20,7 +20,7 @@ use Rattle.restore_tool.specs.declared.copying.DataFault.TheVariants as data_cod
 use Rattle.restore_tool.specs.declared.named.RestoreFault.{RestoreFault}
 use Rattle.restore_tool.specs.declared.named.RestoreFault.TheVariants as code
 use Rattle.restore_tool.specs.declared.named.Source.{Source}
-use Rattle.restore_tool.specs.Answers.{Causes, ClosesAll, Created, KeepsFiles, LeavesOpen, SomeFaulty, fault_of_data}
+use Rattle.restore_tool.specs.Answers.{Causes, ClosesAll, Created, KeepsFiles, LeavesOpen, fault_of_data}
 use Rattle.restore_tool.specs.Copying.{AllTold, text_of}
 use Rattle.restore_tool.specs.Meaning.{IsDone, NamesData, Task, missing, refused, made, task_of, texts_of, with_header, with_partial, with_texts}
 use Rattle.restore_tool.specs.Restored.{for_processors, restored}

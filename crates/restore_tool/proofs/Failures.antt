@@ -9,7 +9,7 @@ use Rattle.trace_outside.specs.Causes.{Rose}
 use Rattle.trace_outside.specs.Folders.{IsFileOf, misses_after}
 use Rattle.trace_outside.specs.Names.{NamedFiles}
 use Rattle.trace_outside.specs.Seen.{FileSeen}
-use Rattle.trace_outside.specs.Open.{AreFilesOf, AreThere}
+use Rattle.trace_outside.specs.Open.{AreFilesOf, AreThere, AreThereBefore, IsUnread, SomeFaulty}
 use Rattle.dat_options.specs.declared.fault.OpenFault.{OpenFault}
 use Rattle.dat_options.specs.declared.fault.OpenFault.TheVariants.{Read, Memory}
 use Rattle.restore_tool.specs.declared.copying.DataFault.{DataFault}
@@ -18,11 +18,11 @@ use Rattle.restore_tool.specs.declared.named.RestoreFault.{RestoreFault}
 use Rattle.restore_tool.specs.declared.named.RestoreFault.TheVariants as code
 use Rattle.restore_tool.specs.declared.named.Source.{Source}
 use Rattle.restore_tool.specs.declared.named.Source.TheVariants as source_code
-use Rattle.restore_tool.specs.Answers.{Causes, SomeFaulty, fault_of_open}
+use Rattle.restore_tool.specs.Answers.{Causes, fault_of_open}
 use Rattle.restore_tool.specs.Copying.{IsCaused}
-use Rattle.restore_tool.specs.Failing.{AreThereBefore, IfRead, IsFaulty, IsUnread, IsUnreadBehind, inputs_of, place_of}
+use Rattle.restore_tool.specs.Failing.{IfRead, IsFaulty, IsUnreadBehind, inputs_of, place_of}
 use Rattle.restore_tool.specs.Meaning.{NamesData}
-use Rattle.restore_tool.proofs.OpenFiles.{there_is}
+use Rattle.trace_outside.proofs.OpenFiles.{there_is}
 use Rattle.restore_tool.proofs.Answered.{result_of}
 
 -- NAMES THAT WERE MISSED

@@ -1,9 +1,8 @@
 -- What the result of a restoring says of the outside.
-use Rattle.std.specs.Prelude.{Option, Result, Ok, Err, ◌≡◌, ◌≤◌, ◌<◌, ℕ, List, length, slice_index_or}
+use Rattle.std.specs.Prelude.{Option, Result, Ok, Err, ◌≡◌, ◌≤◌, ℕ}
 use Rattle.trace_outside.specs.declared.counts.Counts.{Counts}
 use Rattle.trace_outside.specs.Causes.{raised}
 use Rattle.trace_outside.specs.Names.{NamedFiles}
-use Rattle.trace_outside.specs.Seen.{FileSeen}
 use Rattle.dat_options.specs.declared.fault.OpenFault.{OpenFault}
 use Rattle.dat_options.specs.declared.fault.OpenFault.TheVariants.{Read, Memory}
 use Rattle.dat_header.specs.Header.{IsRefusal}
@@ -23,10 +22,6 @@ abbrev pub fault_of_open : OpenFault → RestoreFault
 fault_of_open Read = code.Read source_code.Partial
 fault_of_open Memory = code.NoMemory
 fault_of_open fault = code.Refused fault
-
--- a read of one of these files failed
-abbrev pub SomeFaulty : List FileSeen → Type 0
-SomeFaulty files = (i : ℕ) × (i < length files) × ((d : FileSeen) → 0 < (slice_index_or files i d).faults)
 
 -- a fault of reading or of writing is told only with its cause, and a refusal is one of the file's bytes
 abbrev pub Causes : Result Unit RestoreFault → Type 0 → Type 0 → Type 0

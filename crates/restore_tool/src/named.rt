@@ -3,13 +3,13 @@
 ghost use Rattle.std.specs.Prelude.{◌≡◌, ◌≢◌, ◌+◌, ◌≤◌, ◌⊎◌, [], IfOk, IfSome, length, vec_capacity};
 ghost use Rattle.trace_outside.specs.Causes.{Rose, raised};
 ghost use Rattle.trace_outside.specs.Memory.{KeepsFaults};
-ghost use Rattle.trace_outside.specs.Open.{AreThere};
+ghost use Rattle.trace_outside.specs.Open.{AreThere, IsUnread};
 ghost use Rattle.dat_header.specs.Allowed.{IsHeader};
 ghost use Rattle.dat_header.specs.Partial.{partial_of};
 ghost use Rattle.restore_tool.specs.Copying.{files_seen};
 ghost use Rattle.restore_tool.specs.Answers.{Causes, ClosesAll, Created, IfMade, IfNoMemory, KeepsFiles, LeavesOpen, fault_of_data, fault_of_open};
 ghost use Rattle.restore_tool.specs.Asked.{AsksFor, asked_behind, asked_of};
-ghost use Rattle.restore_tool.specs.Failing.{IfRead, IsFaulty, IsUnread, IsUnreadBehind, inputs_of, place_of};
+ghost use Rattle.restore_tool.specs.Failing.{IfRead, IsFaulty, IsUnreadBehind, inputs_of, place_of};
 ghost use Rattle.restore_tool.specs.Meaning.{IsDone, missing, names_view, task_of, texts_of, with_header, with_texts};
 ghost use Rattle.restore_tool.specs.Reads.{DataWithin, ReadsOnce, reads_of};
 

@@ -6,8 +6,7 @@ use Rattle.std.specs.Option.{option_map}
 use Rattle.trace_outside.specs.Causes.{Rose, raised}
 use Rattle.trace_outside.specs.Names.{NamedFiles}
 use Rattle.trace_outside.specs.Seen.{FileSeen}
-use Rattle.trace_outside.specs.Open.{ClosesMany}
-use Rattle.restore_tool.specs.Answers.{SomeFaulty}
+use Rattle.trace_outside.specs.Open.{ClosesMany, SomeFaulty}
 use Rattle.trace_args.specs.Command.{ReportData}
 use Rattle.run_endings.specs.declared.status.Status.{Status}
 use Rattle.run_endings.specs.declared.status.Status.TheVariants.{NoMemory}

@@ -23,7 +23,7 @@ use Rattle.trace_outside.specs.Seen.{FileSeen}
 use Rattle.subpage.specs.Cut.{Cut, is_before}
 use Rattle.subpage.specs.CutPlaces.{cut_at}
 use Rattle.subpage.specs.declared.cut_place.CutPlace.{CutPlace}
-use Rattle.restore_tool.specs.Answers.{SomeFaulty}
+use Rattle.trace_outside.specs.Open.{SomeFaulty}
 use Rattle.trace_args.specs.Command.{ReportData}
 use Rattle.run_endings.specs.declared.status.Status.TheVariants.{Malformed, NoMemory}
 use Rattle.run_endings.specs.Ending.{Ends, IfNoMemory}

@@ -17,7 +17,7 @@ use Rattle.trace_outside.specs.Open.{ClosesMany}
 use Rattle.dat_options.specs.declared.fault.OpenFault.{OpenFault}
 use Rattle.multi_report.specs.Sources.{IsFreshSource, SourceView, shown_of}
 use Rattle.new_files.specs.Requested.{AskedFirst}
-use Rattle.restore_tool.proofs.OpenFiles.{opens_more}
+use Rattle.trace_outside.proofs.OpenFiles.{opens_more, there_is}
 use Rattle.trace_outside.specs.declared.counts.Counts.{Counts}
 use Rattle.trace_args.specs.Command.{ReportData}
 use Rattle.run_endings.specs.declared.status.Status.{Status}
@@ -36,7 +36,7 @@ use Rattle.run_endings.proofs.Endings.{if_known, stored_none, known_so}
 use Rattle.run_endings.proofs.Requesting.{asked_front, asked_more}
 use Rattle.run_words.proofs.Readings.{readings_fault, readings_more}
 use Rattle.several_report.proofs.InputNames.{named_any}
-use Rattle.several_report.proofs.Unread.{WereRead, found_there, name_at, next_named, there_is, unread_next}
+use Rattle.several_report.proofs.Unread.{WereRead, found_there, name_at, next_named, unread_next}
 
 sum_push : {X : Type 0} (f : X → ℕ) (xs : List X) (x : X) → sum_by f (xs ++ x ∷ []) ≡ sum_by f xs + f x
 sum_push f xs x = omega (arith, sum_by-append f xs (x ∷ []), sum_one f x)

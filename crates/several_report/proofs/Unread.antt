@@ -1,15 +1,15 @@
 -- The input that could not be opened or read.
 use Rattle.std.proofs.Common.{◌≡◌, ◌<◌, ◌+◌, ℕ, zero, suc, List, [], ◌∷◌, ◌++◌, length, length-append, get_or, Option, Some, None, Result, Ok, Err, IfSome, refl, sym, ap, ◌∙◌, subst, arith}
-use Rattle.std.specs.Prelude.{IsSome, if◌then◌else◌, is_none, slice_get}
+use Rattle.std.specs.Prelude.{IsSome, slice_get}
 use Rattle.std.specs.FinMap.{get}
 use Rattle.std.proofs.Math.Seq.{get_or-append_seam}
 use Rattle.std.proofs.lemmas.List.{get_or_append_left}
 use Rattle.std.proofs.lemmas.Option.{slice_get-get_or}
-use Rattle.trace_outside.specs.Causes.{raised}
 use Rattle.trace_outside.specs.Folders.{misses_after}
 use Rattle.trace_outside.specs.Names.{NamedFiles}
 use Rattle.trace_outside.specs.Seen.{FileSeen}
-use Rattle.restore_tool.specs.Failing.{AreThereBefore, IsUnread}
+use Rattle.trace_outside.proofs.OpenFiles.{there_is}
+use Rattle.trace_outside.specs.Open.{AreThereBefore, IsUnread}
 use Rattle.trace_args.specs.Command.{ReportData}
 use Rattle.run_words.specs.Readings.{before_others, readings}
 use Rattle.run_endings.specs.declared.status.Status.{Status}
@@ -17,11 +17,6 @@ use Rattle.run_endings.specs.declared.status.Status.TheVariants.{Done, Usage, Re
 use Rattle.run_endings.specs.Outside.{FolderSeen}
 use Rattle.several_report.specs.Inputs.{NamedInput, WrongInput, input_found, input_named, inputs_in, names_in}
 use Rattle.several_report.specs.Naming.{IsHeldNamed, IsUnreadNamed}
-
--- the misses after a name that is there
-pub there_is : (found : Option (List ℕ)) (misses : ℕ) → IsSome found → (if is_none found then raised misses 1 else misses) ≡ misses
-there_is None misses there = absurd cc
-there_is (Some bytes) misses there = refl
 
 pub found_there : (name : List ℕ) (found : Option (List ℕ)) (input : NamedInput) → input_found name found ≡ Ok input → IsSome found
 found_there name None input is = absurd (let bad : ⊥ = cc in bad)

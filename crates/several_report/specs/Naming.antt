@@ -8,7 +8,7 @@ use Rattle.run_endings.specs.declared.status.Status.TheVariants.{Refused, Malfor
 use Rattle.several_report.specs.Inputs.{NamedInput, WrongInput, shown_in, inputs_in, names_in}
 use Rattle.trace_outside.specs.Causes.{Rose}
 use Rattle.trace_outside.specs.Seen.{FileSeen}
-use Rattle.restore_tool.specs.Failing.{IsUnread}
+use Rattle.trace_outside.specs.Open.{IsUnread}
 use Rattle.run_endings.specs.Outside.{FolderSeen}
 
 -- the input that the answer is of: the first that has no header, or the one whose malformed sub-buffer ends the report

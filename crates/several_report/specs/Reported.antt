@@ -9,7 +9,7 @@ use Rattle.multi_report.specs.declared.report.FilesEnd.TheVariants as end
 use Rattle.multi_report.specs.declared.report.FilesFault.{FilesFault}
 use Rattle.multi_report.specs.declared.report.FilesFault.TheVariants as fault
 use Rattle.multi_report.specs.Sources.{SourceView}
-use Rattle.restore_tool.specs.Answers.{SomeFaulty}
+use Rattle.trace_outside.specs.Open.{SomeFaulty}
 use Rattle.new_files.specs.Requested.{AskedFirst}
 use Rattle.trace_args.specs.Command.{ReportData}
 use Rattle.run_endings.specs.declared.job_end.JobEnd.{JobEnd}

@@ -4,4 +4,5 @@ pub mod Fills
 pub mod PendingLemmas
 pub mod Keeping
 pub mod Putting
+pub mod OpenFiles
 mod Unwritten

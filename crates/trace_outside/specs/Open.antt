@@ -1,11 +1,11 @@
 -- Files that are open at once: what opening and closing them does to a folder.
-use Rattle.std.specs.Prelude.{Option, ◌≡◌, ◌≤◌, ◌<◌, ℕ, List, length, slice_index_or, sum_by, IsSome}
+use Rattle.std.specs.Prelude.{Option, ◌≡◌, ◌≤◌, ◌<◌, ℕ, List, length, slice_index_or, sum_by, IfSome, IsSome}
 use Rattle.std.specs.List.{All}
 use Rattle.std.specs.FinMap.{get}
 use Rattle.trace_outside.specs.declared.counts.Counts.{Counts}
 use Rattle.trace_outside.specs.Names.{NamedFiles}
 use Rattle.trace_outside.specs.Causes.{Rose, raised}
-use Rattle.trace_outside.specs.Folders.{IsFileOf}
+use Rattle.trace_outside.specs.Folders.{IsFileOf, misses_after}
 use Rattle.trace_outside.specs.Seen.{FileSeen}
 
 -- just opened
@@ -44,3 +44,20 @@ pub record ClosesMany (files : List FileSeen) (before now : Counts) : Type 0 whe
   pub created : now.created ≡ before.created
   pub unfinished : now.unfinished ≡ before.unfinished
   pub bytes : now.bytes ≡ raised before.bytes (sum_by (λ file. file.reads) files)
+
+-- a read of one of these files failed
+abbrev pub SomeFaulty : List FileSeen → Type 0
+SomeFaulty files = (i : ℕ) × (i < length files) × ((d : FileSeen) → 0 < (slice_index_or files i d).faults)
+
+-- WHICH COULD NOT BE READ
+
+-- the files before this place are there
+abbrev pub AreThereBefore : NamedFiles → List (List ℕ) → ℕ → Type 0
+AreThereBefore named names place = (i : ℕ) (d : List ℕ) → i < place → IsSome (get named (slice_index_or names i d))
+
+-- The file of this place could not be opened or read: those before it are there, and a name was missed just where it is missing.
+-- So it is the first that is missing, or one that is there, and then no name was missed.
+pub record IsUnread (told : Option NamedFiles) (names : List (List ℕ)) (misses now_misses place : ℕ) : Type 0 where
+  pub inside : place < length names
+  pub before : IfSome told (λ named. AreThereBefore named names place)
+  pub missing : IfSome told (λ named. (d : List ℕ) → now_misses ≡ misses_after named (slice_index_or names place d) misses)

@@ -1,10 +1,11 @@
 use Rattle.std.proofs.Common.{Bor, List, ℕ, ◌+◌, map, subst, sym}
 use Rattle.std.proofs.lemmas.List.{length-map}
+use Rattle.trace_outside.specs.Open.{IsUnread}
 use Rattle.restore_tool.specs.Answers.{ClosesAll}
 use Rattle.trace_args.specs.Command.{RestoreData, restore_view}
 use Rattle.run_endings.specs.Outside.{beside, folder_seen}
 use Rattle.restore_run.specs.Ran.{RestoreRan}
-use Rattle.restore_tool.specs.Failing.{IfRead, IsUnread, place_of}
+use Rattle.restore_tool.specs.Failing.{IfRead, place_of}
 use Rattle.restore_run.specs.Naming.{restore_inputs}
 use Rattle.restore_run.proofs.Restorings.{restored_ran}
 use Rattle.restore_run.proofs.RestoreNames.{restore_named}

@@ -1,7 +1,7 @@
 use Rattle.std.proofs.Common.{rules, ◌≡◌, ◌∙◌, [], ◌∷◌, length, map, refl, sym}
 use Rattle.std.proofs.lemmas.List.{append-nil}
 use Rattle.trace_outside.specs.Seen.{file_seen}
-use Rattle.restore_tool.proofs.OpenFiles.{closes_all, closes_more, closes_none, last_of}
+use Rattle.trace_outside.proofs.OpenFiles.{closes_all, closes_more, closes_none, last_of}
 use Rattle.restore_tool.proofs.frame.close_files.Goals as goal
 
 pub loop-file-init : goal.loop-file-init

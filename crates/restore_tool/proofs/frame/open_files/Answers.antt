@@ -4,7 +4,7 @@ use Rattle.trace_outside.specs.Seen.{file_seen}
 use Rattle.new_files.specs.Requested.{AskedAll}
 use Rattle.restore_tool.proofs.Asking.{asked_next, asked_over, take_mapped}
 use Rattle.restore_tool.proofs.Failures.{missed_at, on_err, unmissed_more}
-use Rattle.restore_tool.proofs.OpenFiles.{name_told, opens_more, seen_more, unused_more}
+use Rattle.trace_outside.proofs.OpenFiles.{name_told, opens_more, seen_more, unused_more}
 use Rattle.restore_tool.proofs.frame.open_files.Goals as goal
 
 pub loop-name-preserved : goal.loop-name-preserved

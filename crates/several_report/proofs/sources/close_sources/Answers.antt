@@ -1,6 +1,6 @@
 use Rattle.std.proofs.Common.{rules, ◌≡◌, ◌∙◌, [], ◌∷◌, length, map, refl, sym}
 use Rattle.std.proofs.lemmas.List.{append-nil}
-use Rattle.restore_tool.proofs.OpenFiles.{closes_more, closes_none, last_of}
+use Rattle.trace_outside.proofs.OpenFiles.{closes_more, closes_none, last_of}
 use Rattle.several_report.specs.OpenInput.{file_in, source_seen}
 use Rattle.several_report.proofs.OpenInputs.{inputs_closed}
 use Rattle.several_report.proofs.sources.close_sources.Goals as goal
