@@ -1,7 +1,7 @@
 use std::test::Fail;
 use trace_base::Tail;
 
-// A piece, the room that it is put into behind `ab`, and what is kept of both.
+// A piece, the room that it is put into after `ab`, and what is kept of both.
 const PIECES: &[(&[u8], usize, &[u8])] = &[
     (b"", 2, b"ab"),
     (b"", 1, b"a"),
@@ -45,7 +45,7 @@ const PIECES: &[(&[u8], usize, &[u8])] = &[
     ),
 ];
 
-// Puts the piece behind two bytes, and tells whether so much is kept of both.
+// Puts the piece after two bytes, and tells whether so much is kept of both.
 fn keeps(piece: &[u8], watches: bool, room: &mut [u8], kept: &[u8]) -> bool {
     let mut tail = Tail::new(room);
     if watches {

@@ -41,7 +41,7 @@ shown_directive (shown.Formed what spec) = Some (directive_of what spec)
 abbrev pub directives_of : Step → List Directive
 directives_of s = option_to_list (literal_directive s.literal) ++ option_to_list (shown_directive s.shown)
 
--- the sixteen bytes that stand at a place of a text, with zeros for those behind its end
+-- the sixteen bytes that stand at a place of a text, with zeros for those after its end
 abbrev pub first_sixteen : List ℕ → List ℕ
 first_sixteen bytes = bytes ++ drop (length bytes) (replicate 16 0)
 

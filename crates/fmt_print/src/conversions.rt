@@ -131,6 +131,7 @@ impl<'a> Printer<'a> {
         }
     }
 
+    /// Shows a signed number of any length, compiled for that base alone.
     #[inline(never)]
     fn long_signed(&self, length: Length, form: &Form, argument: &Argument, into: &mut Tail<'_>)
         ensures { Shows into.old into.new (number_text (given self.now.rec.now) (source self.now).long length Base.Signed form.now (argument_tree argument.now)) }
@@ -138,6 +139,7 @@ impl<'a> Printer<'a> {
         self.long_number(Base::Signed, length, form, argument, into);
     }
 
+    /// Shows an unsigned decimal number of any length, compiled for that base alone.
     #[inline(never)]
     fn long_unsigned(&self, length: Length, form: &Form, argument: &Argument, into: &mut Tail<'_>)
         ensures { Shows into.old into.new (number_text (given self.now.rec.now) (source self.now).long length Base.Unsigned form.now (argument_tree argument.now)) }
@@ -145,6 +147,7 @@ impl<'a> Printer<'a> {
         self.long_number(Base::Unsigned, length, form, argument, into);
     }
 
+    /// Shows a number of any length in any base. Most that come here are hexadecimal, for which a way is compiled alone.
     #[inline(never)]
     fn long_other(
         &self,

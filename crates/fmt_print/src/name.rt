@@ -10,7 +10,7 @@ use trace_base::{Tail, until_nul};
 /// A text of up to sixteen bytes.
 #[derive(Drop)]
 pub struct Name {
-    /// Its bytes, with zeros behind them.
+    /// Its bytes, with zeros after them.
     front: [u8; 16],
     len: u8,
     ghost within: { len ≤ 16 },

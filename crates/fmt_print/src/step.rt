@@ -131,7 +131,7 @@ pub fn put_first(into: &mut [u8], bytes: &[u8])
     into[..bytes.len()].copy_from_slice(bytes);
 }
 
-/// The sixteen bytes that stand at a place of a text, with zeros for those behind its end.
+/// The sixteen bytes that stand at a place of a text, with zeros for those after its end.
 fn sixteen_at(text: &[u8], place: usize) -> [u8; 16]
     ensures { result ≡ sixteen_at place text.now }
 {

@@ -50,7 +50,7 @@ wider : (spaces width : ℕ) (digits more : List ℕ) → length digits ≤ widt
 wider spaces width digits more le =
     sym (append_assoc (replicate spaces 32) (right width digits) more) ∙ ap (λ (l : List ℕ). l ++ more) (spaced spaces width digits le)
 
--- further digits behind a column
+-- further digits after a column
 behind : (width : ℕ) (digits last more : List ℕ) → right width digits ++ (last ++ more) ≡ right (width + length last) (digits ++ last) ++ more
 behind width digits last more =
     let same : width - length digits ≡ width + length last - length (digits ++ last) = omega (arith, length-append digits last) in

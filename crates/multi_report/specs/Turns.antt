@@ -30,7 +30,7 @@ pub record ReportState : Type 0 where
 abbrev pub state_of : List SourceView → List SlotKey → Option (List ℕ) → List ℕ → ReportState
 state_of sources keys written waiting = record { sources = sources; keys = keys; written = written; waiting = waiting }
 
--- A report that is to write these pieces behind what the output had goes on: all files are known, the keys are theirs, and what
+-- A report that is to write these pieces after what the output had goes on: all files are known, the keys are theirs, and what
 -- they have left is what is to come.
 pub record IsUnderway (before : Option (List ℕ)) (whole : List (List ℕ)) (state : ReportState) : Type 0 where
   pub known : All IsKnown state.sources

@@ -70,14 +70,14 @@ pub record FileLeft (file : List ℕ) (rules : Rules) (first now : List Lane) (e
   pub bad_ends : (ends.more && rules.repeat) ≡ false → ends.bad ≡ bad_left file rules first
   pub bad : rules.repeat ≡ true → bad_left file rules now ≡ bad_left file rules first
 
--- each lane of a list went on behind its own of these items
+-- each lane of a list went on after its own of these items
 abbrev pub OwnBehind : List ℕ → List Keyed → List Lane → List Lane → Type 0
 OwnBehind file taken first now =
     (i : ℕ) (d : Lane) → i < length first
     → left_of file (slice_index_or first i d)
     ≡ items_of_cpu (slice_index_or first i d).cpu taken ++ left_of file (slice_index_or now i d)
 
--- the pieces of all lists were taken: each lane went on behind its own items of them, and they were tallied
+-- the pieces of all lists were taken: each lane went on after its own items of them, and they were tallied
 pub record FileMeasured (file : List ℕ) (rules : Rules) (first now : List ListSeen) (ends : Ends) : Type 0 where
   pub left : FileLeft file rules (lanes_of first) (lanes_of now) ends
   pub lefts : EachList (λ before after. OwnBehind file (taken_of file rules (lanes_of first)) before.all after.all) first now
