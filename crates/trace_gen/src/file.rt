@@ -32,12 +32,12 @@ pub fn generate(alloc: Global, seed: u64, events: u32) -> Result<MemFile, AllocE
     ensures no_fault_set { IfOk result (λ file. file_fault file ≡ None) }
 {
     let header = header(alloc)?;
-    let mut data = MemSink::new(alloc);
-    let Ok(parts) = write_data(seed, events, &mut data) else {
+    let mut sub_buffers = MemSink::new(alloc);
+    let Ok(parts) = write_data(seed, events, &mut sub_buffers) else {
         return Err(AllocError);
     };
     let mut file = MemSink::new(alloc);
-    let Ok(()) = write_file(&header, &parts, data.bytes(), &mut file) else {
+    let Ok(()) = write_file(&header, &parts, sub_buffers.bytes(), &mut file) else {
         return Err(AllocError);
     };
     let bytes = ByteText::copy(alloc, file.bytes())?;
@@ -48,18 +48,18 @@ pub fn generate(alloc: Global, seed: u64, events: u32) -> Result<MemFile, AllocE
 fn write_file<O: Sink>(
     header: &Header,
     parts: &[Part],
-    data: &[u8],
+    sub_buffers: &[u8],
     out: &mut O,
 ) -> Result<(), Failed>
     requires value { header.now ≡ header_but_parts }
     requires four { length parts.now ≡ 4 }
     ensures spelled { SpellsHeader (written header_but_parts parts.now) (header_text header_but_parts parts.now) }
     ensures gained { OnOk result (Gained (O.written out.old) (O.written out.new)
-        (header_text header_but_parts parts.now ++ (zeros (front_len - length (header_text header_but_parts parts.now)) ++ data.now))) }
+        (header_text header_but_parts parts.now ++ (zeros (front_len - length (header_text header_but_parts parts.now)) ++ sub_buffers.now))) }
 {
     let len = write_header(header, parts, out)?;
     write_zeros((FRONT_LEN - len) as usize, out)?;
-    write_all(out, data)
+    write_all(out, sub_buffers)
 }
 
 fn write_zeros<O: Sink>(count: usize, out: &mut O) -> Result<(), Failed>

@@ -50,37 +50,41 @@ fn append_processor(
     events: u32,
     cpu: u32,
     packer: &mut Packer<'_>,
-    data: &mut MemSink,
+    sub_buffers: &mut MemSink,
 ) -> Result<Part, Failed>
     requires layout { packer.old.layout ≡ generated_layout }
     requires empty { packer.old.held ≡ [] }
-    ensures gained { OnOk result (Gained (⟦<MemSink as Sink>⟧.written data.old) (⟦<MemSink as Sink>⟧.written data.new) (pack generated_layout (events_of seed cpu events))) }
-    ensures part { IfOk result (λ part. IfSome (⟦<MemSink as Sink>⟧.written data.old) (λ before.
+    ensures gained { OnOk result (Gained (⟦<MemSink as Sink>⟧.written sub_buffers.old) (⟦<MemSink as Sink>⟧.written sub_buffers.new) (pack generated_layout (events_of seed cpu events))) }
+    ensures part { IfOk result (λ part. IfSome (⟦<MemSink as Sink>⟧.written sub_buffers.old) (λ before.
         part ≡ record { offset = front_len + length before; size = length (pack generated_layout (events_of seed cpu events)) })) }
     ensures layout { OnOk result (packer.new.layout ≡ generated_layout) }
     ensures empty { OnOk result (packer.new.held ≡ []) }
 {
-    let before = data.bytes().len() as u64;
-    write_processor(seed, events, cpu, packer, data)?;
-    let behind = data.bytes().len() as u64;
+    let before = sub_buffers.bytes().len() as u64;
+    write_processor(seed, events, cpu, packer, sub_buffers)?;
+    let after = sub_buffers.bytes().len() as u64;
     Ok(Part {
         offset: FRONT_LEN + before,
-        size: behind - before,
+        size: after - before,
     })
 }
 
 /// Writes the sub-buffers of all processors, and gives the parts of the file that they are.
-pub(crate) fn write_data(seed: u64, events: u32, data: &mut MemSink) -> Result<[Part; 4], Failed>
-    requires { ⟦<MemSink as Sink>⟧.written data.old ≡ Some [] }
-    ensures written { OnOk result (⟦<MemSink as Sink>⟧.written data.new ≡ Some (data_of generated_layout (lists_of seed events))) }
+pub(crate) fn write_data(
+    seed: u64,
+    events: u32,
+    sub_buffers: &mut MemSink,
+) -> Result<[Part; 4], Failed>
+    requires { ⟦<MemSink as Sink>⟧.written sub_buffers.old ≡ Some [] }
+    ensures written { OnOk result (⟦<MemSink as Sink>⟧.written sub_buffers.new ≡ Some (data_of generated_layout (lists_of seed events))) }
     ensures parts { IfOk result (λ parts. parts ≡ generated_parts seed events) }
 {
     let layout = layout();
     let mut page = [0; 4096];
     let mut packer = Packer::new(&layout, &mut page);
-    let first = append_processor(seed, events, 0, &mut packer, data)?;
-    let second = append_processor(seed, events, 1, &mut packer, data)?;
-    let third = append_processor(seed, events, 2, &mut packer, data)?;
-    let fourth = append_processor(seed, events, 3, &mut packer, data)?;
+    let first = append_processor(seed, events, 0, &mut packer, sub_buffers)?;
+    let second = append_processor(seed, events, 1, &mut packer, sub_buffers)?;
+    let third = append_processor(seed, events, 2, &mut packer, sub_buffers)?;
+    let fourth = append_processor(seed, events, 3, &mut packer, sub_buffers)?;
     Ok([first, second, third, fourth])
 }

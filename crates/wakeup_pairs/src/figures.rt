@@ -1,6 +1,6 @@
 // How long tasks waited.
 
-ghost use Rattle.std.specs.Prelude.{◌≡◌, ◌<◌, ◌≤◌, ◌*◌, length, sum_by};
+ghost use Rattle.std.specs.Prelude.{◌≡◌, ◌<◌, ◌≤◌, ◌*◌, ◌-◌, ◌^◌, length, sum_by};
 ghost use Rattle.wakeup_pairs.specs.Figures as spec;
 
 use crate::wakeup_item::Pair;
@@ -15,7 +15,7 @@ pub fn latency(pair: &Pair) -> u64
 // The sum of all latencies. There are fewer than 2^64 pairs, so it is below 2^128.
 fn total(pairs: &[Pair]) -> u128
     ensures value { result ≡ sum_by spec.latency pairs.now }
-    ensures small { result ≤ length pairs.now * 18446744073709551615 }
+    ensures small { result ≤ length pairs.now * (2 ^ 64 - 1) }
 {
     let mut total = 0;
     for pair in pairs {

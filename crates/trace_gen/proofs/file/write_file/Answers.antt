@@ -26,4 +26,4 @@ returns-clause-gained g c =
     let first = subst (λ (h : Header). Gained (g.O.Sink.written c.args.out.now) (g.O.Sink.written c.write_header.new.out) (header_text h parts)) c.requires.value c.in_ok-len.ensures.gained in
     let second = subst (λ (n : ℕ). Gained (g.O.Sink.written c.write_header.new.out) (g.O.Sink.written c.write_zeros.new.out) (zeros n)) gap c.in_ok-write_zeros.ensures in
     three_gained c.write_all.result (g.O.Sink.written c.args.out.now) (g.O.Sink.written c.write_header.new.out) (g.O.Sink.written c.write_zeros.new.out) (g.O.Sink.written c.write_all.new.out)
-    (header_text header_but_parts parts) (zeros (front_len - length (header_text header_but_parts parts))) c.args.data.now first second c.write_all.ensures.gained
+    (header_text header_but_parts parts) (zeros (front_len - length (header_text header_but_parts parts))) c.args.sub_buffers.now first second c.write_all.ensures.gained

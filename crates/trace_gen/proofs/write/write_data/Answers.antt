@@ -4,7 +4,7 @@ use Rattle.trace_gen.proofs.write.write_data.Goals as goal
 
 pub returns-clause-written : goal.returns-clause-written
 returns-clause-written c =
-    let appended : AreAppended c.args.seed c.args.events c.args.data.now.kept.items c.append_processor.new.data.kept.items c.append_processor-2.new.data.kept.items c.append_processor-3.new.data.kept.items c.append_processor-4.new.data.kept.items = record {
+    let appended : AreAppended c.args.seed c.args.events c.args.sub_buffers.now.kept.items c.append_processor.new.sub_buffers.kept.items c.append_processor-2.new.sub_buffers.kept.items c.append_processor-3.new.sub_buffers.kept.items c.append_processor-4.new.sub_buffers.kept.items = record {
       none = some_is _ _ c.requires;
       first = c.in_ok-first.ensures.gained;
       second = c.in_ok-second.ensures.gained;
@@ -15,7 +15,7 @@ returns-clause-written c =
 
 pub returns-clause-parts : goal.returns-clause-parts
 returns-clause-parts c =
-    let appended : AreAppended c.args.seed c.args.events c.args.data.now.kept.items c.append_processor.new.data.kept.items c.append_processor-2.new.data.kept.items c.append_processor-3.new.data.kept.items c.append_processor-4.new.data.kept.items = record {
+    let appended : AreAppended c.args.seed c.args.events c.args.sub_buffers.now.kept.items c.append_processor.new.sub_buffers.kept.items c.append_processor-2.new.sub_buffers.kept.items c.append_processor-3.new.sub_buffers.kept.items c.append_processor-4.new.sub_buffers.kept.items = record {
       none = some_is _ _ c.requires;
       first = c.in_ok-first.ensures.gained;
       second = c.in_ok-second.ensures.gained;
