@@ -1,6 +1,6 @@
 // What is read of the files: of the partial one no more than its header, and each data file once.
 
-use crate::told::{ALL, Data, Partial, Row, bytes_read};
+use crate::restores::told::{ALL, Data, Partial, Row, bytes_read};
 use std::test::Fail;
 use trace_outside::MemFault;
 

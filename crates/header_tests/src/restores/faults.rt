@@ -1,6 +1,6 @@
 // Restorings in folders where a call fails: nothing stands under the new name then, and every file is closed.
 
-use crate::told::{ALL, Data, Partial, Row, text_of};
+use crate::restores::told::{ALL, Data, Partial, Row, text_of};
 use std::test::Fail;
 use trace_outside::MemFault;
 

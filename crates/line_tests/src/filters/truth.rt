@@ -1,6 +1,6 @@
-//! What filters are at events, and what is shown.
+// What filters are at events, and what is shown.
 
-use crate::texts::put_often;
+use crate::filters::texts::put_often;
 use filter_lang::{FilterFault, parse_filter};
 use filter_truth::{Event, FilterUse, Filters, bind, holds};
 use format_parse::{EventFormat, FormatTable};

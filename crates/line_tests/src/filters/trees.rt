@@ -1,6 +1,6 @@
-//! Texts, and the filters that they are or the places where they are refused.
+// Texts, and the filters that they are or the places where they are refused.
 
-use crate::texts::{add, put_mark, put_often};
+use crate::filters::texts::{add, put_mark, put_often};
 use filter_lang::{EventName, Filter, FilterExpr, FilterFault, FilterPrefix, parse_filter};
 use std::alloc::{AllocError, Global};
 use std::process::Abort;

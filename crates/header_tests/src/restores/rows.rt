@@ -1,6 +1,6 @@
 // Restorings in folders where nothing fails.
 
-use crate::told::{ALL, Data, Partial, Row, text_of};
+use crate::restores::told::{ALL, Data, Partial, Row, text_of};
 use std::test::Fail;
 
 const ROWS: &[Row] = &[
