@@ -2,7 +2,5 @@
 #![tactic(auto)]
 
 mod binary;
-#[cfg(test)]
-mod tests;
 
 pub use binary::BinaryOp;

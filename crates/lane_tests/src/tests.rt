@@ -1,5 +1,6 @@
 mod cursors;
 mod generated;
+mod keys;
 mod merging;
 mod packing;
 mod passes;

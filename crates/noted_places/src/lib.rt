@@ -6,8 +6,6 @@
 
 mod laws;
 mod places;
-#[cfg(test)]
-mod tests;
 
 pub use laws::last_of_equals;
 pub use places::Places;

@@ -9,8 +9,6 @@ mod gauge;
 pub mod laws;
 mod moment;
 mod rules;
-#[cfg(test)]
-mod tests;
 
 pub use gauge::{Allowance, Gauge};
 pub use moment::{is_before, is_past, last_until};

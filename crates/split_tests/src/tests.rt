@@ -5,6 +5,7 @@ mod fronts;
 mod items;
 mod lanes;
 mod passes;
+mod pieces;
 mod rounds;
 mod runs;
 mod splits;

@@ -9,7 +9,5 @@
 #![tactic(auto)]
 
 mod lines;
-#[cfg(test)]
-mod tests;
 
 pub use lines::{first_after, first_line, joined_lines, line_end};

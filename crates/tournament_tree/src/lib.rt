@@ -3,8 +3,6 @@
 
 mod marks;
 mod slot_key;
-#[cfg(test)]
-mod tests;
 mod trees;
 
 pub use slot_key::SlotKey;

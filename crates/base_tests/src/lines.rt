@@ -1,4 +1,6 @@
-use crate::{first_after, first_line, line_end};
+// The lines of texts.
+
+use text_lines::{first_after, first_line, line_end};
 
 #[test]
 fn a_line_ends_at_a_newline_alone(rt: HostRuntime) {

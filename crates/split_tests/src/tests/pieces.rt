@@ -1,7 +1,7 @@
 //! Lists cut into pieces, as a split cuts them.
 
-use crate::{Gauge, Rules, is_before, is_past};
 use PieceUnit::{All, Events, Nanos};
+use split_pieces::{Gauge, Rules, is_before, is_past};
 use std::test::Fail;
 use word_values::{Moment, PieceUnit};
 

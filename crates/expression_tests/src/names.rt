@@ -1,4 +1,6 @@
-use crate::FieldNames;
+// Fields that are found by their names.
+
+use field_names::FieldNames;
 use std::test::Fail;
 use trace_base::{ByteText, Field, FieldKind, FieldPlace};
 

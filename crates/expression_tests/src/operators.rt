@@ -1,6 +1,6 @@
-//! The operators, as C11 6.5.5 to 6.5.14 list them.
+// The operators, as C11 6.5.5 to 6.5.14 list them.
 
-use crate::BinaryOp;
+use c_operators::BinaryOp;
 
 /// Each operator's spelling, with the operator and its level, from 6.5.5 on.
 const OPERATORS: [(&[u8], BinaryOp, u32); 18] = [

@@ -2,9 +2,8 @@
 
 ghost use Rattle.std.specs.Prelude.{◌≡◌, ◌≤◌, length};
 
-use crate::slot_key::SlotKey;
-use crate::trees::TournamentTree;
 use std::test::Fail;
+use tournament_tree::{SlotKey, TournamentTree};
 
 fn put(tree: &mut TournamentTree, slot: usize, key: SlotKey)
     requires { length tree.old ≡ 5 }
@@ -27,7 +26,7 @@ fn the_first_of_the_least_keys(rt: HostRuntime) -> Result<(), Fail> {
         (2, SlotKey::Start, Some(0)),
         (0, SlotKey::Empty, Some(2)),
         (2, SlotKey::Empty, Some(4)),
-        (4, SlotKey::At(18_446_744_073_709_551_615), Some(1)),
+        (4, SlotKey::At(MOST), Some(1)),
         (1, SlotKey::Empty, Some(3)),
         (3, SlotKey::Empty, Some(4)),
         (4, SlotKey::Empty, None),
@@ -57,7 +56,7 @@ fn up_to(tree: &TournamentTree, slot: usize) -> Option<u64>
     if slot < 5 { tree.up_to(slot) } else { None }
 }
 
-const MOST: u64 = 18_446_744_073_709_551_615;
+const MOST: u64 = u64::MAX;
 
 #[test]
 fn keys_up_to_the_only_other(rt: HostRuntime) -> Result<(), Fail> {

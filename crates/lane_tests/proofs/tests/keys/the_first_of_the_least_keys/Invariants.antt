@@ -1,5 +1,5 @@
 use Rattle.std.proofs.Common.{◌≡◌, length}
-use Rattle.tournament_tree.proofs.tests.keys_up_to_the_only_other.Given as goal
+use Rattle.lane_tests.proofs.tests.keys.the_first_of_the_least_keys.Given as goal
 
 abbrev pub invariant-loop-slot : goal.invariant-loop-slot
 invariant-loop-slot g l = length l.tree ≡ 5

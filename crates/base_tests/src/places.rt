@@ -1,4 +1,6 @@
-use crate::Places;
+// Where a cache notes numbers.
+
+use noted_places::Places;
 use std::test::Fail;
 
 #[test]
