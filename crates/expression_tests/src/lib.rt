@@ -1,7 +1,7 @@
 //! Tests of the expressions in print fmts: how a print fmt is read, its tokens, the meaning of each by itself, its trees and the
 //! directives of its text (`fmt_lexer`, `fmt_literal`, `fmt_expr` and `fmt_directives`); the values of trees, and trees with their
-//! constant parts computed (`fmt_eval`, `fmt_fold`); and below them C's operators (`c_operators`) and fields by their names (`field_names`). Those in
-//! filters are tested in `line_tests`.
+//! constant parts computed (`fmt_eval`, `fmt_fold`); and below them C's operators (`c_operators`) and fields by their names
+//! (`field_names`). Those in filters are tested in `line_tests`.
 //!
 //! All that is read of a print fmt goes through the one driver in `rows`: a row is a line of `ROWS` in `tokens`, `literals`,
 //! `trees` or `directives`, and its first word says what is made of its text. A new kind of row is an arm of that module's

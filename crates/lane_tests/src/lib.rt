@@ -4,8 +4,8 @@
 //!
 //! The items of a sub-buffer's bytes are a row of `ROWS` in `sub_pages`, and items that are packed again one of `PACKED` in
 //! `packing`. Of one lane, `cursors` has the items of a part of a file in `PARTS` and places to go to in `PLACES`; of two,
-//! `merging` has their cuts in `ENDS`. Slots of a tree whose keys change are in `keys`, regions of lines in `pools`, and generated files in
-//! `generated`.
+//! `merging` has their cuts in `ENDS`. Slots of a tree whose keys change are in `keys`, regions of lines in `pools`, and generated
+//! files in `generated`.
 #![tactic(auto)]
 
 #[cfg(test)]
