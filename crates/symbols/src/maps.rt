@@ -1,7 +1,9 @@
 ghost use Rattle.std.specs.Prelude.{◌≡◌, None, length, reverse, slice_get, IfOk, IfSome, IfNone};
 ghost use Rattle.std.specs.Option.{option_map};
-ghost use Rattle.symbols.specs.NameMap.{first_at, nearest, IsNearest, NoneUpTo};
-ghost use Rattle.symbols.specs.Maps.{AreMapsOf, maps_of, task_name, unnamed};
+ghost use Rattle.std.specs.Map.{keys_of};
+ghost use Rattle.noted_places.specs.Noted.{noted};
+ghost use Rattle.symbols.specs.NameMap.{first_at, nearest, IsMapOf, IsNearest, NoneUpTo};
+ghost use Rattle.symbols.specs.Maps.{AreMapsOf, maps_of, symbols_in, task_name, tasks_in, unnamed};
 
 use crate::guide::Guide;
 use crate::lines::Form;
@@ -35,6 +37,27 @@ impl Model for Symbols {
     ghost invariant = { λ s. s.task_places ≡ noted (length s.task_places) (keys_of s.tasks) };
 }
 
+/// The symbols of kallsyms, and the guide to them.
+fn guided(alloc: Global, kallsyms: ByteText) -> Result<(NameTable, Guide), AllocError>
+    ensures { IfOk result (λ made. IsMapOf (symbols_in kallsyms) made.0) }
+{
+    let symbols = NameTable::build(alloc, names_in(alloc, Form::Kallsyms, kallsyms)?)?;
+    let guide = symbols.guide(alloc)?;
+    Ok((symbols, guide))
+}
+
+/// The tasks, of equal pids the last, and their places by pid.
+fn placed(alloc: Global, cmdlines: ByteText) -> Result<(NameTable, Places), AllocError>
+    ensures map { IfOk result (λ made. IsMapOf (reverse (tasks_in cmdlines)) made.0) }
+    ensures places { IfOk result (λ made. made.1 ≡ noted (length made.1) (keys_of made.0)) }
+{
+    let mut found = names_in(alloc, Form::Tasks, cmdlines)?;
+    found.reverse();
+    let tasks = NameTable::build(alloc, found)?;
+    let places = tasks.places(alloc)?;
+    Ok((tasks, places))
+}
+
 impl Symbols {
     /// Reads the texts of kallsyms, of printk formats and of saved command lines, as a trace file carries them.
     ///
@@ -50,13 +73,9 @@ impl Symbols {
         ensures maps { IfOk result (AreMapsOf kallsyms printk cmdlines) }
         ensures exact { IfOk result (λ symbols. symbols ≡ maps_of kallsyms printk cmdlines) }
     {
-        let symbols = NameTable::build(alloc, names_in(alloc, Form::Kallsyms, kallsyms)?)?;
-        let symbol_guide = symbols.guide(alloc)?;
+        let (symbols, symbol_guide) = guided(alloc, kallsyms)?;
         let printk = NameTable::build(alloc, names_in(alloc, Form::Printk, printk)?)?;
-        let mut found = names_in(alloc, Form::Tasks, cmdlines)?;
-        found.reverse();
-        let tasks = NameTable::build(alloc, found)?;
-        let task_places = tasks.places(alloc)?;
+        let (tasks, task_places) = placed(alloc, cmdlines)?;
         Ok(Symbols {
             symbols,
             symbol_guide,
