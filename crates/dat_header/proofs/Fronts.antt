@@ -6,7 +6,7 @@ use Rattle.trace_base.specs.declared.order.Order.{Order}
 use Rattle.trace_base.specs.declared.part.Part.{Part}
 use Rattle.dat_options.specs.Place.{StandsAt}
 use Rattle.dat_options.specs.Options.{IsOption, options_text, options_from}
-use Rattle.dat_options.specs.Table.{IsPart, table_text, table_from}
+use Rattle.dat_options.specs.Table.{table_text, table_from}
 use Rattle.dat_options.proofs.Places.{stands_inside, stands_behind}
 use Rattle.dat_options.proofs.OptionsLaws.{options_has}
 use Rattle.dat_options.proofs.TableLaws.{table_has, length-table_text}
@@ -46,16 +46,16 @@ pub options_end : (order : Order) → EndsEarly (λ file at. options_from order 
 options_end order file at fault bytes within e = options_fault order at fault file e
 
 abbrev AreParts : ℕ → List Part → Type 0
-AreParts cpus parts = (length parts ≡ cpus) × All IsPart parts
+AreParts cpus parts = length parts ≡ cpus
 
-pub reads_table : (order : Order) (cpus : ℕ) → Reads (table_text order) (λ parts. (length parts ≡ cpus) × All IsPart parts) (λ file at. table_from order cpus at file)
+pub reads_table : (order : Order) (cpus : ℕ) → Reads (table_text order) (λ parts. length parts ≡ cpus) (λ file at. table_from order cpus at file)
 reads_table order cpus = record {
   again = λ file at parts rest within are here.
-      table_has order cpus parts at file (record { count = are.0; allowed = are.1; stands = stands_here file (table_text order parts) rest at within here })
-      ∙ ap (λ (n : ℕ). found_value parts n) (omega (arith, are.0, length-table_text order parts));
+      table_has order cpus parts at file (record { count = are; stands = stands_here file (table_text order parts) rest at within here })
+      ∙ ap (λ (n : ℕ). found_value parts n) (omega (arith, are, length-table_text order parts));
   sound = λ file at parts end bytes within e.
       let has = (computes_table order cpus parts at end file bytes).0 e in
-      stands_there (table_text order) (AreParts cpus) file at end parts (has.0.count, has.0.allowed) has.0.stands (omega (arith, has.1, has.0.count, length-table_text order parts));
+      stands_there (table_text order) (AreParts cpus) file at end parts has.0.count has.0.stands (omega (arith, has.1, has.0.count, length-table_text order parts));
 }
 
 pub table_end : (order : Order) (cpus : ℕ) → EndsEarly (λ file at. table_from order cpus at file)

@@ -4,11 +4,10 @@ use Rattle.std.proofs.lemmas.Bool.{cases_lt}
 use Rattle.std.proofs.lemmas.List.{append-nil, take-append-drop}
 use Rattle.std.proofs.lemmas.Grind.{flat_map-append}
 use Rattle.std.proofs.Math.Seq.{take-add}
-use Rattle.std.specs.List.{All, slice_get, list_any}
+use Rattle.std.specs.List.{slice_get, list_any}
 use Rattle.trace_base.specs.Number.{num}
 use Rattle.trace_base.specs.declared.order.Order.{Order}
 use Rattle.trace_base.specs.declared.part.Part.{Part}
-use Rattle.dat_options.specs.Table.{IsPart}
 use Rattle.dat_header.specs.Written.{written, header_text, with_parts}
 use Rattle.dat_options.specs.declared.option.Opt.{Opt}
 use Rattle.dat_options.specs.declared.fault.OpenFault.{OpenFault}
@@ -263,8 +262,8 @@ pub refuses_by_bytes : RefusesByBytes
 refuses_by_bytes file fault refuses = subst IsRefusal (sym refuses.is) (one_refuses (items refuses.header) refuses.count refuses.item (all_refuse refuses.header) refuses.next file (length (front refuses.count refuses.header)))
 
 -- what is written is spelled by the header with these parts
-pub written_spelled : (header : Header) (parts : List Part) → IsHeader header → length parts ≡ header.cpus → All IsPart parts → SpellsHeader (written header parts) (header_text header parts)
-written_spelled header parts h each words = record {
+pub written_spelled : (header : Header) (parts : List Part) → IsHeader header → length parts ≡ header.cpus → SpellsHeader (written header parts) (header_text header parts)
+written_spelled header parts h each = record {
   allowed = record {
     long = h.long;
     page = h.page;
@@ -278,7 +277,7 @@ written_spelled header parts h each words = record {
     cmdlines = h.cmdlines;
     cpus = h.cpus;
     options = h.options;
-    body = (each, words);
+    body = each;
   };
   joined = ap text (sym (open_items (with_parts header parts) (length (header_text header parts))));
   ends = refl;

@@ -1,8 +1,6 @@
 -- The header of pieces whose values are allowed.
 use Rattle.std.proofs.Common.{ℕ, List, ◌+◌, ◌-◌, ◌≤◌, [], None, Result, Ok, Err, IfOk, refl, arith}
-use Rattle.std.proofs.lemmas.List.Elements.{All-nil}
 use Rattle.std.proofs.Math.Pow.{pow_mono}
-use Rattle.dat_options.specs.Table.{IsPart}
 use Rattle.trace_outside.specs.Causes.{raised}
 use Rattle.trace_outside.specs.Seen.{FileSeen}
 use Rattle.trace_base.specs.Allowed.{IsAllowed}
@@ -43,7 +41,7 @@ header_allowed opening carried cpus sections end o c few s = record {
 
 pub partial_allowed : (opening : Opening) (carried : Carried) (end : ℕ) → IsOpening opening → IsCarried carried → IsPartial (partial_header opening carried end)
 partial_allowed opening carried end o c = record {
-  allowed = header_allowed opening carried 0 (record { options = None; body = Fly [] }) end o c (omega arith) (record { options = tt; body = (refl, All-nil IsPart) });
+  allowed = header_allowed opening carried 0 (record { options = None; body = Fly [] }) end o c (omega arith) (record { options = tt; body = refl });
   cpus = refl;
   options = refl;
   body = refl;

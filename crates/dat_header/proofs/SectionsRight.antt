@@ -4,14 +4,14 @@ use Rattle.std.proofs.lemmas.Bool.{cases_Bool}
 use Rattle.std.proofs.lemmas.List.{length-drop, length-take, take_at, take-append-drop, drop-drop}
 use Rattle.std.proofs.lemmas.Slice.Eq.{bytes_eq-Decides}
 use Rattle.std.specs.List.{All}
-use Rattle.std.proofs.lemmas.List.Elements.{All-cons}
 use Rattle.trace_base.specs.declared.order.Order.{Order}
 use Rattle.trace_base.specs.declared.part.Part.{Part}
 use Rattle.dat_options.specs.declared.option.Opt.{Opt}
 use Rattle.dat_options.specs.declared.fault.OpenFault.{OpenFault}
 use Rattle.dat_options.specs.declared.fault.OpenFault.TheVariants.{BadSection}
 use Rattle.dat_options.specs.Options.{IsOption, options_text, options_from}
-use Rattle.dat_options.specs.Table.{IsPart, table_text, table_from}
+use Rattle.trace_base.specs.Parts.{part_of}
+use Rattle.dat_options.specs.Table.{table_text, table_from}
 use Rattle.dat_header.specs.declared.header.Body.{Body}
 use Rattle.dat_header.specs.declared.header.Body.TheVariants.{Latency, Fly}
 use Rattle.dat_header.specs.declared.pieces.Sections.{Sections}
@@ -190,21 +190,21 @@ module _ (order : Order) (cpus : ℕ) where
 
   abbrev RestIs : LastSection → Body → Type 0
   RestIs kind.Latency body = body ≡ Latency
-  RestIs kind.Fly body = ((length (parts_of body) ≡ cpus) × All IsPart (parts_of body)) × (Fly (parts_of body) ≡ body)
+  RestIs kind.Fly body = (length (parts_of body) ≡ cpus) × (Fly (parts_of body) ≡ body)
 
   no_parts : ℕ → List Part
   no_parts zero = []
-  no_parts (suc n) = record { offset = 0; size = 0 } ∷ no_parts n
+  no_parts (suc n) = part_of 0 0 ∷ no_parts n
 
-  no_parts_are : (n : ℕ) → (length (no_parts n) ≡ n) × All IsPart (no_parts n)
+  no_parts_are : (n : ℕ) → length (no_parts n) ≡ n
   unfolding no_parts
-  no_parts_are zero = (refl, λ k d h. absurd (omega arith))
-  no_parts_are (suc n) = let rest = no_parts_are n in (ap suc rest.0, All-cons IsPart (record { offset = 0; size = 0 }) (no_parts n) (record { offset_fits = omega arith; size_fits = omega arith }) rest.1)
+  no_parts_are zero = refl
+  no_parts_are (suc n) = ap suc (no_parts_are n)
 
   right_rest : (last : LastSection) → Right (rest_items last) (RestIs last) (body_at order cpus last)
   right_rest kind.Latency = rights_none Latency
-  right_rest kind.Fly = right_made (one_item carried (table_text order)) (λ parts. (length parts ≡ cpus) × All IsPart parts) (λ file at. table_from order cpus at file) (λ parts. Fly parts) parts_of (λ parts. refl)
-      (right_carried (table_text order) (λ parts. (length parts ≡ cpus) × All IsPart parts) (λ file at. table_from order cpus at file) (no_parts cpus) (no_parts_are cpus) (reads_table order cpus) (table_end order cpus))
+  right_rest kind.Fly = right_made (one_item carried (table_text order)) (λ parts. length parts ≡ cpus) (λ file at. table_from order cpus at file) (λ parts. Fly parts) parts_of (λ parts. refl)
+      (right_carried (table_text order) (λ parts. length parts ≡ cpus) (λ file at. table_from order cpus at file) (no_parts cpus) (no_parts_are cpus) (reads_table order cpus) (table_end order cpus))
 
   -- after the first word
   abbrev behind_items : Option LastSection → Sections → List Item

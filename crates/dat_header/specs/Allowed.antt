@@ -4,7 +4,6 @@
 use Rattle.std.specs.Prelude.{◌≡◌, ◌≢◌, ℕ, ◌^◌, ◌<◌, ◌≤◌, ◌⊎◌, List, length, Some, IfSome}
 use Rattle.std.specs.List.{All}
 use Rattle.dat_options.specs.Options.{IsOption}
-use Rattle.dat_options.specs.Table.{IsPart}
 use Rattle.dat_header.specs.declared.header.Header.{Header}
 use Rattle.dat_header.specs.declared.header.System.{System}
 use Rattle.dat_header.specs.declared.header.Body.{Body}
@@ -37,7 +36,7 @@ pub record AreSystems (systems : List System) : Type 0 where
 -- a table has one part a processor
 abbrev pub IsBody : ℕ → Body → Type 0
 IsBody cpus Latency = Unit {0}
-IsBody cpus (Fly parts) = (length parts ≡ cpus) × All IsPart parts
+IsBody cpus (Fly parts) = length parts ≡ cpus
 
 -- every value but the header's own length is one that may stand in a file
 pub record IsHeader (header : Header) : Type 0 where

@@ -1,11 +1,10 @@
 // The whole header, written piece after piece, or with a text in front of its table that is held.
 
 ghost use Rattle.std.specs.Prelude.{◌≡◌, ◌%◌, ◌^◌, ◌++◌, List, length, IfOk, OnOk, OnErr};
-ghost use Rattle.std.specs.List.{All};
 ghost use Rattle.trace_base.specs.declared.part.Part.{Part};
 ghost use Rattle.trace_outside.specs.Causes.{HasCause};
 ghost use Rattle.trace_outside.specs.Writing.{Gained, GainedPrefix};
-ghost use Rattle.dat_options.specs.Table.{IsPart, table_text};
+ghost use Rattle.dat_options.specs.Table.{table_text};
 ghost use Rattle.dat_header.specs.Allowed.{IsHeader};
 ghost use Rattle.dat_header.specs.Spelling.{SpellsHeader};
 ghost use Rattle.dat_header.specs.Written.{Writes, header_text, text_before_table, written};
@@ -34,7 +33,6 @@ pub fn write_header<O: Sink>(header: &Header, parts: &[Part], out: &mut O) -> Re
     ensures name { O.name out.new ≡ O.name out.old }
     ensures cause { HasCause (O.faults out.old) (O.faults out.new) result }
 {
-    are_words(parts);
     write_pieces(header, parts, out)?;
     Ok(header_len(header))
 }
@@ -105,20 +103,4 @@ fn write_both<O: Sink>(
 {
     write_all(out, before.as_bytes())?;
     write_table(header.order, parts, out)
-}
-
-// Offsets and sizes are numbers of 64 bits, which a proof learns where they are read.
-fn are_words(parts: &[Part])
-    ensures { All IsPart parts.now }
-{
-    for part in parts {
-        is_words(part);
-    }
-}
-
-fn is_words(part: &Part)
-    ensures { IsPart part.now }
-{
-    let _offset = part.offset;
-    let _size = part.size;
 }

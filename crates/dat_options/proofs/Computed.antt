@@ -127,11 +127,11 @@ unfolding table_from
 table_fault order cpus at fault bytes e = from_fault (table_at order cpus) bytes at fault e
 
 table_there : (order : Order) (cpus at : ℕ) (parts : List Part) (end : ℕ) (bytes : List ℕ) → AreBytes bytes → table_from order cpus at bytes ≡ Ok (parts, end) → HasTable order cpus parts at bytes
-table_there order cpus at parts end bytes fit e = let found = table_found order cpus at parts end bytes fit e in record { count = found.is.0; allowed = found.is.1; stands = found.stands }
+table_there order cpus at parts end bytes fit e = let found = table_found order cpus at parts end bytes fit e in record { count = found.is; stands = found.stands }
 
 pub computes_table : ComputesTable
 computes_table order cpus parts at end bytes fit = (
-  λ e. let found = table_found order cpus at parts end bytes fit e in (table_there order cpus at parts end bytes fit e, omega (arith, found.place, found.is.0, length-table_text order parts)),
+  λ e. let found = table_found order cpus at parts end bytes fit e in (table_there order cpus at parts end bytes fit e, omega (arith, found.place, found.is, length-table_text order parts)),
   λ has. table_has order cpus parts at bytes has.0 ∙ ap (λ (n : ℕ). placed parts n) (sym has.1),
 )
 

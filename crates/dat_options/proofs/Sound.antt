@@ -1,5 +1,5 @@
 -- What is computed at the front of bytes is spelled there.
-use Rattle.std.proofs.Common.{◌≡◌, ◌≢◌, ℕ, zero, suc, ◌^◌, ◌<◌, Bool, cond, eqb, ltb, List, [], ◌∷◌, ◌++◌, length, take, drop, Option, None, Some, refl, sym, ap, subst, ◌∙◌, append_assoc, inl, inr, arith}
+use Rattle.std.proofs.Common.{◌≡◌, ◌≢◌, ℕ, zero, suc, ◌%◌, ◌^◌, ◌<◌, Bool, cond, eqb, ltb, List, [], ◌∷◌, ◌++◌, length, take, drop, Option, None, Some, refl, sym, ap, subst, ◌∙◌, append_assoc, inl, inr, arith}
 use Rattle.std.proofs.lemmas.Bool.{cases_Bool, ltb-false, eqb-true, eqb-false}
 use Rattle.std.proofs.lemmas.List.{length-take, take-append-drop}
 use Rattle.std.proofs.lemmas.List.Concat.{flat_map-cons}
@@ -13,7 +13,9 @@ use Rattle.trace_base.specs.declared.part.Part.{Part}
 use Rattle.dat_options.specs.declared.option.Opt.{Opt}
 use Rattle.dat_options.specs.Front.{leading_piece, leading_number}
 use Rattle.dat_options.specs.Options.{IsOption, option_text, options_text, option_behind, option_at, with_first, options_below, options_at}
-use Rattle.dat_options.specs.Table.{IsPart, part_text, table_text, part_at, table_at}
+use Rattle.trace_base.specs.Parts.{part_of}
+use Rattle.std.proofs.Math.Nat.{mod-eq_of_lt}
+use Rattle.dat_options.specs.Table.{part_text, table_text, part_at, table_at}
 use Rattle.dat_options.proofs.Numbers.{IsBytes, limit, bytes_back, are_bytes, num_fits}
 use Rattle.dat_options.proofs.Steps.{some_is}
 use Rattle.dat_options.specs.Place.{AreBytes}
@@ -143,30 +145,37 @@ pub options_sound : (order : Order) (bytes : List ℕ) (found : List Opt × List
 unfolding options_at
 options_sound order bytes found fit e = below_sound (length bytes) order bytes found fit e
 
-part_sound : (order : Order) (bytes : List ℕ) (found : Part × List ℕ) → AreBytes bytes → part_at order bytes ≡ Some found → Front (part_text order) IsPart bytes found.0 found.1
-unfolding part_at
+numbers_kept : (order : Order) (offset size : ℕ) → offset < 2 ^ 64 → size < 2 ^ 64 → part_text order (part_of offset size) ≡ bytes_of order 8 offset ++ bytes_of order 8 size
+unfolding part_of
+numbers_kept order offset size one two =
+    ap (λ (n : ℕ). bytes_of order 8 n ++ bytes_of order 8 (size % 2 ^ 64)) (mod-eq_of_lt one) ∙ ap (λ (n : ℕ). bytes_of order 8 offset ++ bytes_of order 8 n) (mod-eq_of_lt two)
+
+part_sound : (order : Order) (bytes : List ℕ) (found : Part × List ℕ) → AreBytes bytes → part_at order bytes ≡ Some found → Front (part_text order) (λ part. Unit {0}) bytes found.0 found.1
+unfolding part_at part_of
 part_sound order bytes found fit e =
     let offset = and_then_is (leading_number order 8 bytes) _ found e in
     let one = number_sound order 8 bytes offset.0 fit offset.1 in
     let size = and_then_is (leading_number order 8 offset.0.1) _ found offset.2 in
     let two = number_sound order 8 offset.0.1 size.0 one.fit size.1 in
-    let parts : Part × List ℕ = (record { offset = offset.0.0; size = size.0.0 }, size.0.1) in
-    let P : Part × List ℕ → Type 0 = λ f. Front (part_text order) IsPart bytes f.0 f.1 in
+    let parts : Part × List ℕ = (part_of offset.0.0 size.0.0, size.0.1) in
+    let same : part_text order parts.0 ≡ bytes_of order 8 offset.0.0 ++ bytes_of order 8 size.0.0 = numbers_kept order offset.0.0 size.0.0 one.is two.is in
+    let P : Part × List ℕ → Type 0 = λ f. Front (part_text order) (λ part. Unit {0}) bytes f.0 f.1 in
     subst P (some_is parts found size.2) (record {
-      is = record { offset_fits = one.is; size_fits = two.is };
-      whole = one.whole ∙ ap (λ (t : List ℕ). bytes_of order 8 offset.0.0 ++ t) two.whole ∙ sym (append_assoc (bytes_of order 8 offset.0.0) (bytes_of order 8 size.0.0) size.0.1);
+      is = tt;
+      whole = one.whole ∙ ap (λ (t : List ℕ). bytes_of order 8 offset.0.0 ++ t) two.whole ∙ sym (append_assoc (bytes_of order 8 offset.0.0) (bytes_of order 8 size.0.0) size.0.1)
+          ∙ ap (λ (t : List ℕ). t ++ size.0.1) (sym same);
       fit = two.fit;
     })
 
 abbrev pub AreParts : ℕ → List Part → Type 0
-AreParts cpus parts = (length parts ≡ cpus) × All IsPart parts
+AreParts cpus parts = length parts ≡ cpus
 
 pub table_sound : (order : Order) (cpus : ℕ) (bytes : List ℕ) (found : List Part × List ℕ) → AreBytes bytes → table_at order cpus bytes ≡ Some found → Front (table_text order) (AreParts cpus) bytes found.0 found.1
 unfolding table_at
 table_sound order zero bytes found fit e =
     let ended : List Part × List ℕ = ([], bytes) in
     let P : List Part × List ℕ → Type 0 = λ f. Front (table_text order) (AreParts 0) bytes f.0 f.1 in
-    subst P (some_is ended found e) (record { is = (refl, λ k d h. absurd (omega arith)); whole = refl; fit = fit })
+    subst P (some_is ended found e) (record { is = refl; whole = refl; fit = fit })
 table_sound order (suc cpus) bytes found fit e =
     let first = and_then_is (part_at order bytes) _ found e in
     let front = part_sound order bytes first.0 fit first.1 in
@@ -176,7 +185,7 @@ table_sound order (suc cpus) bytes found fit e =
     let all = others.0.0 in
     let P : List Part × List ℕ → Type 0 = λ f. Front (table_text order) (AreParts (suc cpus)) bytes f.0 f.1 in
     subst P others.2 (record {
-      is = (omega (arith, back.is.0), All-cons IsPart part all front.is back.is.1);
+      is = omega (arith, back.is);
       whole = front.whole ∙ ap (λ (t : List ℕ). part_text order part ++ t) back.whole ∙ sym (append_assoc (part_text order part) (table_text order all) others.0.1)
           ∙ ap (λ (t : List ℕ). t ++ others.0.1) (sym (flat_map-cons (part_text order) part all));
       fit = back.fit;

@@ -1,6 +1,5 @@
 -- What the bytes that were read say of a table.
 use Rattle.std.proofs.Common.{◌≡◌, ℕ, ◌+◌, ◌*◌, List, length, Option, None, Some, Ok, Err, IfSome, sym, ap, subst, ◌∙◌, arith}
-use Rattle.std.specs.List.{All}
 use Rattle.trace_base.specs.declared.order.Order.{Order}
 use Rattle.trace_base.specs.declared.part.Part.{Part}
 use Rattle.dat_options.specs.declared.fault.OpenFault.{OpenFault}
@@ -10,7 +9,7 @@ use Rattle.dat_options.specs.Answer.{AnswersTold, fault_of_piece}
 use Rattle.trace_outside.specs.declared.piece.PieceFault.{PieceFault}
 use Rattle.trace_outside.specs.declared.piece.PieceFault.TheVariants as piece
 use Rattle.trace_outside.specs.Piece.{GivesPiece}
-use Rattle.dat_options.specs.Table.{IsPart, table_text, HasTable, FindsTable, table_from}
+use Rattle.dat_options.specs.Table.{table_text, HasTable, FindsTable, table_from}
 use Rattle.dat_options.proofs.Places.{stands_from, given_goes_on}
 use Rattle.dat_options.proofs.TableLaws.{length-table_text, table_has, table_past}
 
@@ -46,13 +45,13 @@ pub record Found (order : Order) (cpus : ℕ) (told : Option (List ℕ)) (at : �
   pub count : length parts ≡ cpus
 
 pub all_found : (order : Order) (cpus : ℕ) (told : Option (List ℕ)) (size at : ℕ) (parts : List Part) (text : List ℕ) → IfSome told (λ bytes. length bytes ≡ size)
-    → All IsPart parts → table_text order parts ≡ text → GivesPiece told size at (16 * cpus) (Ok text) → Found order cpus told at parts
-all_found order cpus None size at parts text whole are is given =
+    → table_text order parts ≡ text → GivesPiece told size at (16 * cpus) (Ok text) → Found order cpus told at parts
+all_found order cpus None size at parts text whole is given =
     let long : length (table_text order parts) ≡ length text = ap length is in
     record { found = tt; exact = tt; count = omega (arith, long, given.0, length-table_text order parts) }
-all_found order cpus (Some bytes) size at parts text whole are is given =
+all_found order cpus (Some bytes) size at parts text whole is given =
     let long : length (table_text order parts) ≡ length text = ap length is in
     let count : length parts ≡ cpus = omega (arith, long, given.0, length-table_text order parts) in
     let holds : GoesOnWith (table_text order parts) at bytes = subst (λ (t : List ℕ). GoesOnWith t at bytes) (sym is) (given_goes_on (Some bytes) at (16 * cpus) text given.0 given.2) in
-    let has : HasTable order cpus parts at bytes = record { count = count; allowed = are; stands = stands_from (table_text order parts) at bytes (omega (arith, long, given.0, given.1, whole)) holds } in
+    let has : HasTable order cpus parts at bytes = record { count = count; stands = stands_from (table_text order parts) at bytes (omega (arith, long, given.0, given.1, whole)) holds } in
     record { found = has; exact = table_has order cpus parts at bytes has; count = count }

@@ -3,36 +3,36 @@ use Rattle.std.proofs.Common.{◌≡◌, ℕ, zero, suc, ◌+◌, ◌-◌, ◌*�
 use Rattle.std.proofs.lemmas.Bool.{le-ltb, lt-ltb, cases_lt}
 use Rattle.std.proofs.lemmas.List.{length-append, length-drop, drop-drop}
 use Rattle.std.proofs.lemmas.List.Concat.{flat_map-cons}
-use Rattle.std.proofs.lemmas.List.Elements.{All-head, All-tail}
-use Rattle.std.specs.List.{All}
 use Rattle.trace_base.specs.declared.order.Order.{Order}
 use Rattle.trace_base.specs.declared.part.Part.{Part}
 use Rattle.trace_base.specs.Number.{num, bytes_of}
+use Rattle.trace_base.specs.Parts.{part_of}
+use Rattle.trace_base.proofs.PartNumbers.{part_is}
 use Rattle.dat_options.specs.declared.fault.OpenFault.TheVariants.{Truncated}
-use Rattle.dat_options.specs.Table.{IsPart, part_text, table_text, HasTable, part_at, table_at, table_from}
+use Rattle.dat_options.specs.Table.{part_text, table_text, HasTable, part_at, table_at, table_from}
 use Rattle.dat_options.proofs.Steps.{ok_is}
 use Rattle.dat_options.proofs.Numbers.{length-bytes_of}
 use Rattle.dat_options.proofs.Fronts.{number_again, number_short, number_long}
 use Rattle.dat_options.proofs.Places.{stands_inside, stands_behind}
 
-part_again : (order : Order) (part : Part) (rest : List ℕ) → IsPart part → part_at order (part_text order part ++ rest) ≡ Some (part, rest)
+part_again : (order : Order) (part : Part) (rest : List ℕ) → part_at order (part_text order part ++ rest) ≡ Some (part, rest)
 unfolding part_at
-part_again order part rest is =
+part_again order part rest =
     rw (
       append_assoc (bytes_of order 8 part.offset) (bytes_of order 8 part.size) rest,
-      number_again order 8 part.offset (bytes_of order 8 part.size ++ rest) is.offset_fits,
-      number_again order 8 part.size rest is.size_fits,
-    ) refl
+      number_again order 8 part.offset (bytes_of order 8 part.size ++ rest) part.words.offset_fits,
+      number_again order 8 part.size rest part.words.size_fits,
+    ) (ap (λ (p : Part). Some (p, rest)) (part_is part))
 
-pub table_again : (order : Order) (parts : List Part) (rest : List ℕ) → All IsPart parts → table_at order (length parts) (table_text order parts ++ rest) ≡ Some (parts, rest)
+pub table_again : (order : Order) (parts : List Part) (rest : List ℕ) → table_at order (length parts) (table_text order parts ++ rest) ≡ Some (parts, rest)
 unfolding table_at
-table_again order [] rest are = refl
-table_again order (part ∷ parts) rest are =
+table_again order [] rest = refl
+table_again order (part ∷ parts) rest =
     rw (
       flat_map-cons (part_text order) part parts,
       append_assoc (part_text order part) (table_text order parts) rest,
-      part_again order part (table_text order parts ++ rest) (All-head IsPart part parts are),
-      table_again order parts rest (All-tail IsPart part parts are),
+      part_again order part (table_text order parts ++ rest),
+      table_again order parts rest,
     ) refl
 
 pub length-part_text : (order : Order) (part : Part) → length (part_text order part) ≡ 16
@@ -54,7 +54,7 @@ part_short order bytes short = elim (cases_lt (length bytes) 8) [
 part_long : (order : Order) (bytes : List ℕ) → 16 ≤ length bytes → (part : Part) × (part_at order bytes ≡ Some (part, drop 16 bytes))
 unfolding part_at
 part_long order bytes long = (
-  record { offset = num order (take 8 bytes); size = num order (take 8 (drop 8 bytes)) },
+  part_of (num order (take 8 bytes)) (num order (take 8 (drop 8 bytes))),
   rw (number_long order 8 bytes (omega arith), number_long order 8 (drop 8 bytes) (omega (arith, length-drop 8 bytes)), drop-drop 8 8 bytes) refl,
 )
 
@@ -77,7 +77,7 @@ table_has order cpus parts at bytes has =
     let inside : ltb (length bytes) at ≡ false = le-ltb _ _ (omega (arith, long)) in
     let place : length bytes - length has.stands.back ≡ at + 16 * cpus = omega (arith, long, length-table_text order parts, has.count) in
     let read : table_at order cpus (table_text order parts ++ has.stands.back) ≡ Some (parts, has.stands.back) =
-    ap (λ count. table_at order count (table_text order parts ++ has.stands.back)) (sym has.count) ∙ table_again order parts has.stands.back has.allowed in
+    ap (λ count. table_at order count (table_text order parts ++ has.stands.back)) (sym has.count) ∙ table_again order parts has.stands.back in
     rw (inside, stands_behind (table_text order parts) at bytes has.stands, read, place) refl
 
 pub table_past : (order : Order) (cpus at : ℕ) (bytes : List ℕ) → length bytes < at + 16 * cpus → table_from order cpus at bytes ≡ Err (Truncated (length bytes))

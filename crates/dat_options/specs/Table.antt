@@ -1,22 +1,18 @@
 -- The table of a trace file: the offset and the size of each processor's data, in order.
 -- Source: trace-cmd.dat.v6(5), the entries after `flyrecord`.
-use Rattle.std.specs.Prelude.{◌≡◌, ◌↔◌, ◌+◌, ◌*◌, ℕ, zero, suc, ◌^◌, ◌<◌, nat_lt, if◌then◌else◌, List, [], ◌∷◌, ◌++◌, length, drop, Option, Some, None, Result, Ok, Err, IfSome}
+use Rattle.std.specs.Prelude.{◌≡◌, ◌↔◌, ◌+◌, ◌*◌, ℕ, zero, suc, nat_lt, if◌then◌else◌, List, [], ◌∷◌, ◌++◌, length, drop, Option, Some, None, Result, Ok, Err, IfSome}
 use Rattle.std.specs.Option.{option_map}
-use Rattle.std.specs.List.{All, flat_map}
+use Rattle.std.specs.List.{flat_map}
 use Rattle.trace_base.specs.declared.order.Order.{Order}
 use Rattle.trace_base.specs.declared.part.Part.{Part}
 use Rattle.trace_base.specs.Number.{bytes_of}
+use Rattle.trace_base.specs.Parts.{part_of}
 use Rattle.dat_options.specs.declared.fault.OpenFault.{OpenFault}
 use Rattle.dat_options.specs.declared.fault.OpenFault.TheVariants.{Truncated}
 use Rattle.trace_base.specs.OptionSteps.{◌>>=◌}
 use Rattle.dat_options.specs.Front.{leading_number}
 use Rattle.dat_options.specs.Place.{StandsAt, AreBytes}
 use Rattle.dat_options.specs.Answer.{found_in}
-
--- both are numbers of 64 bits
-pub record IsPart (part : Part) : Type 0 where
-  pub offset_fits : part.offset < 2 ^ 64
-  pub size_fits : part.size < 2 ^ 64
 
 abbrev pub part_text : Order → Part → List ℕ
 part_text order part = bytes_of order 8 part.offset ++ bytes_of order 8 part.size
@@ -27,7 +23,6 @@ table_text order parts = flat_map (part_text order) parts
 -- a file has these parts, one for each processor, at a place
 pub record HasTable (order : Order) (cpus : ℕ) (parts : List Part) (at : ℕ) (bytes : List ℕ) : Type 0 where
   pub count : length parts ≡ cpus
-  pub allowed : All IsPart parts
   pub stands : StandsAt (table_text order parts) at bytes
 
 -- what was found there is there, and where the file was found to end early nothing is there
@@ -41,7 +36,7 @@ unfoldable pub part_at : Order → List ℕ → Option (Part × List ℕ)
 part_at order bytes = do
   offset ← leading_number order 8 bytes
   size ← leading_number order 8 offset.1
-  Some (record { offset = offset.0; size = size.0 }, size.1)
+  Some (part_of offset.0 size.0, size.1)
 
 -- the parts of so many processors that bytes begin with, and the bytes after them
 unfoldable pub table_at : Order → ℕ → List ℕ → Option (List Part × List ℕ)
@@ -60,7 +55,7 @@ OneTable = (order : Order) (cpus : ℕ) (parts others : List Part) (at : ℕ) (b
 
 -- What is written is read again, whatever follows it.
 abbrev pub TableReadsBack : Type 0
-TableReadsBack = (order : Order) (parts : List Part) (rest : List ℕ) → All IsPart parts → table_at order (length parts) (table_text order parts ++ rest) ≡ Some (parts, rest)
+TableReadsBack = (order : Order) (parts : List Part) (rest : List ℕ) → table_at order (length parts) (table_text order parts ++ rest) ≡ Some (parts, rest)
 
 -- The computed table is the one that a file has at the place, with the place after it.
 abbrev pub ComputesTable : Type 0

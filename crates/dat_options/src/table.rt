@@ -1,12 +1,11 @@
 // The table of a trace file: where each processor's data stand (trace-cmd.dat.v6(5), after `flyrecord`).
 
 ghost use Rattle.std.specs.Prelude.{◌≡◌, ◌+◌, ◌-◌, ◌*◌, ◌%◌, ◌≤◌, length, IfOk, IfErr, OnOk, OnErr, IsErrOf};
-ghost use Rattle.std.specs.List.{All};
 ghost use Rattle.trace_outside.specs.Causes.{HasCause, Rose, raised};
 ghost use Rattle.trace_outside.specs.Keeping.{KeepsFile};
 ghost use Rattle.trace_outside.specs.Writing.{Gained, GainedPrefix};
 ghost use Rattle.dat_options.specs.Answer.{AnswersTold, IsEnd, KeptUnlessRead};
-ghost use Rattle.dat_options.specs.Table.{IsPart, FindsTable, part_text, table_text, table_from};
+ghost use Rattle.dat_options.specs.Table.{FindsTable, part_text, table_text, table_from};
 
 use crate::fault::OpenFault;
 use std::alloc::Global;
@@ -33,7 +32,6 @@ pub fn read_table<F: File>(
     ensures found { FindsTable order cpus at (F.bytes file.old) result }
     ensures exact { AnswersTold (table_from order cpus at) (F.bytes file.old) result }
     ensures count { IfOk result (λ found. length found.0 ≡ cpus) }
-    ensures allowed { IfOk result (λ found. All IsPart found.0) }
     ensures behind { IfOk result (λ found. found.1 ≡ at + 16 * cpus) }
     ensures inside { IfOk result (λ found. found.1 ≤ F.size file.old) }
     ensures fault { IfErr result (IsEnd (F.size file.old)) }
@@ -55,7 +53,6 @@ pub fn read_table<F: File>(
 fn parts_of(alloc: Global, order: Order, text: &[u8]) -> Result<ListOf<Part>, OpenFault>
     requires { length text.now % 16 ≡ 0 }
     ensures spelled { IfOk result (λ parts. table_text order parts ≡ text.now) }
-    ensures allowed { IfOk result (λ parts. All IsPart parts) }
     ensures memory { IfErr result (λ fault. fault ≡ OpenFault.Memory) }
 {
     let Ok(mut parts) = Vec::with_capacity(alloc, text.len() / 16) else {
@@ -74,8 +71,7 @@ fn parts_of(alloc: Global, order: Order, text: &[u8]) -> Result<ListOf<Part>, Op
 
 fn part_of(order: Order, bytes: &[u8]) -> Part
     requires { length bytes.now ≡ 16 }
-    ensures spelled { part_text order result ≡ bytes.now }
-    ensures allowed { IsPart result }
+    ensures { part_text order result ≡ bytes.now }
 {
     Part {
         offset: read_u64(order, bytes),

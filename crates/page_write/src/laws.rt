@@ -7,7 +7,7 @@ ghost use Rattle.page_write.specs.Adding.{Adds};
 ghost use Rattle.page_write.specs.Fill.{IsFill};
 ghost use Rattle.subpage.specs.ItemView.{item_view};
 ghost use Rattle.page_write.specs.SoFar.{open_page, IsSoFar};
-ghost use Rattle.page_write.specs.Placed.{IsPlaced, parts_from, data_of};
+ghost use Rattle.page_write.specs.Placed.{IsPlaced, TellsBack, FitsPart, parts_from, data_of};
 ghost use Rattle.page_write.specs.Pack.{Packed, packed, pack};
 ghost use Rattle.trace_base.specs.declared.layout.Layout.{Layout};
 ghost use Rattle.subpage.specs.ItemData.{ItemData, EventAt};
@@ -65,16 +65,18 @@ pub fn short_events_can_be_packed()
 {}
 
 /// After any front, the sub-buffers of processors' items, where their parts follow one another, read back to just these items,
-/// and none of them is malformed.
+/// and none of them is malformed. One by one the sub-buffers of items of any number of bytes do.
 pub fn file_reads_back()
     ensures items { (layout : Layout) (front : List ℕ) (lists : List (List ItemData))
-        → All (All (IsPackable layout)) lists
+        → All (All (IsPackable layout)) lists → All (FitsPart layout) lists
         → length front + length (data_of layout lists) ≤ 2 ^ 64
         → map (list_of layout (front ++ data_of layout lists)) (parts_from layout (length front) lists) ≡ lists }
     ensures sound { (layout : Layout) (front : List ℕ) (lists : List (List ItemData))
-        → All (All (IsPackable layout)) lists
+        → All (All (IsPackable layout)) lists → All (FitsPart layout) lists
         → length front + length (data_of layout lists) ≤ 2 ^ 64
         → All (λ part. bad_of layout (front ++ data_of layout lists) part ≡ None) (parts_from layout (length front) lists) }
+    ensures pages { (layout : Layout) (xs : List ItemData)
+        → All (IsPackable layout) xs → All (TellsBack layout) (packed layout xs) }
     ensures size { (layout : Layout) (xs : List ItemData)
         → All (IsPackable layout) xs → length (pack layout xs) ≡ length (packed layout xs) * layout.page }
 {}

@@ -6,9 +6,10 @@ use Rattle.std.proofs.lemmas.List.{take_all, take_more, map-append, append-nil}
 use Rattle.std.proofs.lemmas.List.Elements.{All-get_or}
 use Rattle.std.proofs.Math.Nat.{mod-add-mod, mod-eq_of_lt}
 use Rattle.trace_base.specs.declared.part.Part.{Part}
+use Rattle.trace_base.specs.Parts.{part_of}
+use Rattle.trace_base.proofs.PartNumbers.{same_part}
 use Rattle.trace_outside.specs.Writing.{Gained}
 use Rattle.trace_outside.proofs.Gains.{gained_both, gained_nothing}
-use Rattle.dat_header.specs.Tables.{in_table}
 use Rattle.trace_outside.specs.Copies.{Copies}
 use Rattle.trace_outside.specs.Seen.{FileSeen}
 use Rattle.new_files.specs.Padding.{up_to_page, zeros}
@@ -33,7 +34,7 @@ end_more page place [] x = refl
 end_more page place (f ∷ front) x = end_more page (up_to_page page place + length f) front x
 
 abbrev part_from : ℕ → ℕ → ℕ → Part
-part_from page end size = record { offset = up_to_page page end; size = size }
+part_from page end size = part_of (up_to_page page end) size
 
 pub parts_more : (page place : ℕ) (front : List (List ℕ)) (x : List ℕ)
     → parts_behind page place (map length (front ++ x ∷ [])) ≡ parts_behind page place (map length front) ++ part_from page (end_behind page place (map length front)) (length x) ∷ []
@@ -145,7 +146,7 @@ copied_all page first files count place old new le copied whole is told =
 -- PLACED SO FAR
 
 pub record Rows (page whole : ℕ) (texts : List (List ℕ)) (place : ℕ) (parts : List Part) : Type 0 where
-  pub parts_are : parts ≡ map in_table (parts_behind page whole (map length texts))
+  pub parts_are : parts ≡ parts_behind page whole (map length texts)
   pub place_is : place ≡ end_behind page whole (map length texts) % 2 ^ 64
 
 abbrev pub PlacedTo : ℕ → ℕ → List FileSeen → ℕ → ℕ → List Part → Type 0
@@ -154,12 +155,17 @@ PlacedTo page first files count place parts = (whole : ℕ) → first ≡ whole 
 pub placed_none : (page first : ℕ) (files : List FileSeen) (parts : List Part) → PlacedTo page first files 0 first parts
 placed_none page first files parts whole is told = record { parts_are = refl; place_is = is }
 
+is_part : (part : Part) (offset size : ℕ) → part.offset ≡ offset % 2 ^ 64 → part.size ≡ size → part ≡ part_of offset size
+unfolding part_of
+is_part part offset size offset_is size_is =
+    same_part part (part_of offset size) offset_is (sym (mod-eq_of_lt part.words.size_fits) ∙ ap (λ (n : ℕ). n % 2 ^ 64) size_is)
+
 -- one part more was filled in
 pub placed_more : (page first : ℕ) (files : List FileSeen) (i place missing size next : ℕ) (file : FileSeen) (part : Part) (parts now : List Part)
-    → i < length files → IsGap page place missing → file ≡ get_or files i file → IfSome file.bytes (λ bytes. length bytes ≡ size) → size < 2 ^ 64
-    → part ≡ record { offset = (place + missing) % 2 ^ 64; size = size } → next ≡ ((place + missing) % 2 ^ 64 + size) % 2 ^ 64 → take (i + 1) now ≡ take i parts ++ part ∷ []
+    → i < length files → IsGap page place missing → file ≡ get_or files i file → IfSome file.bytes (λ bytes. length bytes ≡ size)
+    → part.offset ≡ (place + missing) % 2 ^ 64 → part.size ≡ size → next ≡ ((place + missing) % 2 ^ 64 + size) % 2 ^ 64 → take (i + 1) now ≡ take i parts ++ part ∷ []
     → PlacedTo page first files i place parts → PlacedTo page first files (i + 1) next now
-placed_more page first files i place missing size next file part parts now lt gap is_file sized fits part_is next_is pushed placed whole is told =
+placed_more page first files i place missing size next file part parts now lt gap is_file sized offset_is size_is next_is pushed placed whole is told =
     let before = placed whole is told in
     let next_one = next_told files i file lt told in
     let bytes = next_one.bytes in
@@ -170,20 +176,15 @@ placed_more page first files i place missing size next file part parts now lt ga
     let long : length bytes ≡ size = subst (λ (o : Option (List ℕ)). IfSome o (λ bs. length bs ≡ size)) file_told sized in
     let last : end_behind page whole (map length (front ++ bytes ∷ [])) ≡ up_to_page page end + length bytes = end_more page whole front bytes in
     let offset : (place + missing) % 2 ^ 64 ≡ up_to_page page end % 2 ^ 64 = next_offset place end missing before.place_is ∙ ap (λ (n : ℕ). n % 2 ^ 64) (sym up) in
-    let own : part ≡ in_table (part_from page end (length bytes)) =
-    part_is ∙ ap (λ (n : ℕ). row n size) offset ∙ ap (λ (n : ℕ). row (up_to_page page end % 2 ^ 64) n) (sym (mod-eq_of_lt fits) ∙ ap (λ (n : ℕ). n % 2 ^ 64) (sym long)) in
+    let own : part ≡ part_from page end (length bytes) = is_part part (up_to_page page end) (length bytes) (offset_is ∙ offset) (size_is ∙ sym long) in
     subst (λ (ts : List (List ℕ)). Rows page whole ts next (take (i + 1) now)) (sym next_one.texts) (record {
-      parts_are = pushed ∙ ap (λ (ps : List Part). ps ++ part ∷ []) before.parts_are ∙ ap (λ (p : Part). map in_table (parts_behind page whole (map length front)) ++ p ∷ []) own
-          ∙ sym (map-append in_table (parts_behind page whole (map length front)) (part_from page end (length bytes) ∷ []))
-          ∙ ap (map in_table) (sym (parts_more page whole front bytes));
+      parts_are = pushed ∙ ap (λ (ps : List Part). ps ++ part ∷ []) before.parts_are ∙ ap (λ (p : Part). parts_behind page whole (map length front) ++ p ∷ []) own
+          ∙ sym (parts_more page whole front bytes);
       place_is = next_is ∙ next_place place end missing size before.place_is ∙ ap (λ (n : ℕ). n % 2 ^ 64) (omega (arith, last, up, long));
     })
-  where
-    row : ℕ → ℕ → Part
-    row offset size = record { offset = offset; size = size }
 
 pub placed_all : (page first : ℕ) (files : List FileSeen) (count place : ℕ) (parts : List Part) → length files ≤ count → length parts ≡ length files → PlacedTo page first files count place parts
-    → (whole : ℕ) → first ≡ whole % 2 ^ 64 → AllTold files → parts ≡ map in_table (parts_behind page whole (map length (map text_of files)))
+    → (whole : ℕ) → first ≡ whole % 2 ^ 64 → AllTold files → parts ≡ parts_behind page whole (map length (map text_of files))
 placed_all page first files count place parts le each placed whole is told =
     sym (take_all count parts (omega (arith, le, each))) ∙ (placed whole is told).parts_are
-    ∙ ap (λ (fs : List FileSeen). map in_table (parts_behind page whole (map length (map text_of fs)))) (take_all count files le)
+    ∙ ap (λ (fs : List FileSeen). parts_behind page whole (map length (map text_of fs))) (take_all count files le)

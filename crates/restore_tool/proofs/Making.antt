@@ -1,12 +1,12 @@
 -- The new file: written, finished or given up, and what is read from it.
 use Rattle.std.proofs.Common.{◌≡◌, ℕ, ◌+◌, ◌-◌, ◌%◌, ◌^◌, ◌<◌, ◌≤◌, List, [], ◌∷◌, ◌++◌, length, take, drop, map, Option, Some, None, Result, Ok, Err, inl, refl, sym, ap, subst, ◌∙◌, append_assoc, arith}
-use Rattle.std.specs.List.{All}
 use Rattle.std.specs.Option.{IfSome}
 use Rattle.std.specs.FinMap.{insert}
 use Rattle.std.specs.Io.KnownBytes.{append_known}
 use Rattle.std.proofs.lemmas.List.{length-append, length-map, length-replicate, take_at, drop_at}
-use Rattle.std.proofs.lemmas.List.Elements.{All-nil, All-cons}
+use Rattle.std.proofs.Math.Nat.{mod-eq_of_lt}
 use Rattle.trace_base.specs.declared.part.Part.{Part}
+use Rattle.trace_base.specs.Parts.{part_of}
 use Rattle.trace_outside.specs.declared.counts.Counts.{Counts}
 use Rattle.trace_outside.specs.Causes.{Rose, raised}
 use Rattle.trace_outside.specs.Folders.{IsEmptySink, Stores}
@@ -14,13 +14,12 @@ use Rattle.trace_outside.specs.Names.{NamedFiles, stored}
 use Rattle.trace_outside.specs.Writing.{Gained}
 use Rattle.trace_outside.proofs.Gains.{gained_both}
 use Rattle.trace_outside.specs.Seen.{FileSeen}
-use Rattle.dat_options.specs.Table.{IsPart}
 use Rattle.dat_header.specs.declared.header.Header.{Header}
 use Rattle.dat_header.specs.Allowed.{IsHeader}
-use Rattle.dat_header.specs.Tables.{blank, in_table}
+use Rattle.dat_header.specs.Tables.{blank}
 use Rattle.dat_header.specs.Written.{header_text, written}
 use Rattle.dat_header.proofs.HeaderLaws.{written_spelled}
-use Rattle.dat_header.proofs.Tables.{header_wrapped, same_len}
+use Rattle.dat_header.proofs.Tables.{same_len}
 use Rattle.new_files.specs.Padding.{IsPage, up_to_page, zeros}
 use Rattle.new_files.proofs.Placing.{no_less}
 use Rattle.restore_tool.specs.declared.copying.DataFault.{DataFault}
@@ -53,15 +52,15 @@ end_is header parts each = same_len header parts each
 -- a place that is told of every table is that of the blank one
 pub header_end_len : (header : Header) (len : ℕ) → ((parts : List Part) → length parts ≡ header.cpus → len ≡ length (header_text header parts) % 2 ^ 64) → len ≡ header_end header % 2 ^ 64
 unfolding header_end
-header_end_len header len is = is (blank header.cpus) (length-replicate {A = Part} header.cpus (record { offset = 0; size = 0 }))
+header_end_len header len is = is (blank header.cpus) (length-replicate {A = Part} header.cpus (part_of 0 0))
 
--- what was written with a table that wraps is the restored file
-pub whole_is : (header : Header) (parts : List Part) (files : List (List ℕ)) → length parts ≡ header.cpus → parts ≡ map in_table (table_of header files)
+-- what was written with the table is the restored file
+pub whole_is : (header : Header) (parts : List Part) (files : List (List ℕ)) → length parts ≡ header.cpus → parts ≡ table_of header files
     → header_text header parts ++ data_behind header.page (length (header_text header parts)) files ≡ restored header files
 unfolding restored
 whole_is header parts files each placed =
     ap (λ (n : ℕ). header_text header parts ++ data_behind header.page n files) (end_is header parts each)
-    ∙ ap (λ (t : List ℕ). t ++ data_behind header.page (header_end header) files) (ap (header_text header) placed ∙ header_wrapped header (table_of header files))
+    ∙ ap (λ (t : List ℕ). t ++ data_behind header.page (header_end header) files) (ap (header_text header) placed)
 
 -- a sink that was empty has just what it gained
 pub stored_is : (old mid new : Option NamedFiles) (name own text whole : List ℕ) (empty written : Option (List ℕ))
@@ -96,43 +95,37 @@ unfinished_dropped code.Write before now same = (omega (arith, same), omega (ari
 
 -- WHAT IS READ FROM IT
 
-parts_fit : (page place : ℕ) (files : List (List ℕ)) → IsPage page → place + length (data_behind page place files) < 2 ^ 64 → All IsPart (parts_behind page place (map length files))
-parts_fit page place [] p short = All-nil IsPart
-parts_fit page place (file ∷ files) p short =
-    let up = up_to_page page place in
-    let gap = zeros (up - place) in
-    let more = data_behind page (up + length file) files in
-    let long = length-append gap (file ++ more) in
-    let longer = length-append file more in
-    let missing = length-replicate {A = ℕ} (up - place) 0 in
-    let least = no_less page place p in
-    All-cons IsPart (record { offset = up; size = length file }) (parts_behind page (up + length file) (map length files))
-    (record { offset_fits = omega (arith, long, longer, missing, least, short); size_fits = omega (arith, long, longer, missing, least, short) })
-    (parts_fit page (up + length file) files p (omega (arith, long, longer, missing, least, short)))
-
 abbrev part_bytes : List ℕ → Part → List ℕ
 part_bytes bytes part = take part.size (drop part.offset bytes)
 
+part_there : (bytes : List ℕ) (offset size : ℕ) → offset < 2 ^ 64 → size < 2 ^ 64 → part_bytes bytes (part_of offset size) ≡ take size (drop offset bytes)
+unfolding part_of
+part_there bytes offset size at long = ap (λ (n : ℕ). take n (drop (offset % 2 ^ 64) bytes)) (mod-eq_of_lt long) ∙ ap (λ (n : ℕ). take size (drop n bytes)) (mod-eq_of_lt at)
+
 -- each part has just its data file
-given_by : (page : ℕ) (front : List ℕ) (files : List (List ℕ)) → IsPage page
+given_by : (page : ℕ) (front : List ℕ) (files : List (List ℕ)) → IsPage page → length front + length (data_behind page (length front) files) < 2 ^ 64
     → map (part_bytes (front ++ data_behind page (length front) files)) (parts_behind page (length front) (map length files)) ≡ files
-given_by page front [] p = refl
-given_by page front (file ∷ files) p =
+given_by page front [] p short = refl
+given_by page front (file ∷ files) p short =
     let place = length front in
     let up = up_to_page page place in
     let gap = zeros (up - place) in
     let more = data_behind page (up + length file) files in
-    let long : length (front ++ gap) ≡ up = omega (arith, length-append front gap, length-replicate {A = ℕ} (up - place) 0, no_less page place p) in
+    let missing = length-replicate {A = ℕ} (up - place) 0 in
+    let least = no_less page place p in
+    let long : length (front ++ gap) ≡ up = omega (arith, length-append front gap, missing, least) in
     let next = (front ++ gap) ++ file in
     let far : length next ≡ up + length file = omega (arith, length-append (front ++ gap) file, long) in
     let whole = front ++ (gap ++ (file ++ more)) in
     let parted : whole ≡ (front ++ gap) ++ (file ++ more) = sym (append_assoc front gap (file ++ more)) in
     let again : whole ≡ next ++ more = parted ∙ sym (append_assoc (front ++ gap) file more) in
-    let here : take (length file) (drop up whole) ≡ file =
-    ap (λ (bs : List ℕ). take (length file) (drop up bs)) parted
+    let ends : up + length file + length more < 2 ^ 64 = omega (arith, length-append gap (file ++ more), length-append file more, missing, least, short) in
+    let here : part_bytes whole (part_of up (length file)) ≡ file =
+    part_there whole up (length file) (omega (arith, ends)) (omega (arith, ends))
+    ∙ ap (λ (bs : List ℕ). take (length file) (drop up bs)) parted
     ∙ ap (take (length file)) (drop_at (front ++ gap) (file ++ more) up long)
     ∙ take_at file more (length file) refl in
-    let others = given_by page next files p in
+    let others = given_by page next files p (subst (λ (n : ℕ). n + length (data_behind page n files) < 2 ^ 64) (sym far) ends) in
     let rest : map (part_bytes whole) (parts_behind page (up + length file) (map length files)) ≡ files =
     ap (λ (bs : List ℕ). map (part_bytes bs) (parts_behind page (up + length file) (map length files))) again
     ∙ subst (λ (n : ℕ). map (part_bytes (next ++ data_behind page n files)) (parts_behind page n (map length files)) ≡ files) far others in
@@ -147,11 +140,11 @@ reads_back header files allowed each short =
     let same = same_end header files each in
     let behind = data_behind header.page (header_end header) files in
     let many : length parts ≡ header.cpus = length-table header files ∙ each in
-    let fit = parts_fit header.page (header_end header) files page (omega (arith, length-append text behind, same, short)) in
-    let given = subst (λ (n : ℕ). map (part_bytes (text ++ data_behind header.page n files)) (parts_behind header.page n (map length files)) ≡ files) same (given_by header.page text files page) in
+    let given = subst (λ (n : ℕ). map (part_bytes (text ++ data_behind header.page n files)) (parts_behind header.page n (map length files)) ≡ files) same
+    (given_by header.page text files page (subst (λ (n : ℕ). n + length (data_behind header.page n files) < 2 ^ 64) (sym same) (omega (arith, length-append text behind, same, short)))) in
     record {
       parts = parts;
-      header_is = (text, written_spelled header parts allowed many fit, (behind, refl));
+      header_is = (text, written_spelled header parts allowed many, (behind, refl));
       placed = ap (λ (n : ℕ). parts_behind header.page n (map length files)) (sym same);
       behind = ap (λ (n : ℕ). text ++ data_behind header.page n files) (sym same);
       given = given;

@@ -3,6 +3,7 @@
 -- of the page size on.
 use Rattle.std.specs.Prelude.{◌≡◌, ℕ, ◌+◌, ◌-◌, List, [], ◌∷◌, ◌++◌, length, map, take, drop}
 use Rattle.trace_base.specs.declared.part.Part.{Part}
+use Rattle.trace_base.specs.Parts.{part_of}
 use Rattle.dat_header.specs.declared.header.Header.{Header}
 use Rattle.dat_header.specs.declared.header.Body.TheVariants.{Fly}
 use Rattle.dat_header.specs.Spelling.{HasHeader}
@@ -10,11 +11,11 @@ use Rattle.dat_header.specs.Tables.{blank}
 use Rattle.dat_header.specs.Written.{header_text, written}
 use Rattle.new_files.specs.Padding.{up_to_page, zeros}
 
--- the parts of data files of these lengths, after a place: each from the next multiple of the page on
+-- the parts of data files of these lengths, after a place: each from the next multiple of the page on, its numbers modulo 2^64
 abbrev pub parts_behind : ℕ → ℕ → List ℕ → List Part
 parts_behind page place [] = []
 parts_behind page place (size ∷ sizes) =
-    record { offset = up_to_page page place; size = size } ∷ parts_behind page (up_to_page page place + size) sizes
+    part_of (up_to_page page place) size ∷ parts_behind page (up_to_page page place + size) sizes
 
 -- zero bytes up to the next multiple of the page and the data file's bytes, one file after another
 abbrev pub data_behind : ℕ → ℕ → List (List ℕ) → List ℕ
@@ -35,7 +36,7 @@ header_end header = length (header_text header (blank header.cpus))
 abbrev pub table_of : Header → List (List ℕ) → List Part
 table_of header files = parts_behind header.page (header_end header) (map length files)
 
--- the very bytes; the table tells its numbers modulo 2^64
+-- the very bytes
 unfoldable pub restored : Header → List (List ℕ) → List ℕ
 restored header files = header_text header (table_of header files) ++ data_behind header.page (header_end header) files
 

@@ -27,7 +27,7 @@ taken_is items one own slice body selection (Ok found) of same is all =
 
 pub taken_within : (one : Option ℕ) (cpus : ℕ) (body : Body) → IsBody cpus body → length (taken_of one body) ≤ cpus
 taken_within one cpus Latency allowed = omega arith
-taken_within one cpus (Fly parts) allowed = omega (arith, chosen_few (λ (part : ℕ × Part). has (one_or_all one) part.0) 0 parts, allowed.0)
+taken_within one cpus (Fly parts) allowed = omega (arith, chosen_few (λ (part : ℕ × Part). has (one_or_all one) part.0) 0 parts, allowed)
 
 -- and each is one of them
 chosen_below : {X : Type 0} (p : ℕ × X → Bool) (n end : ℕ) (xs : List X) → n + length xs ≤ end → All (λ (x : ℕ × X). x.0 < end) (filter p (enumerate_from n xs))
@@ -41,4 +41,4 @@ chosen_below p n end (x ∷ xs) within = by_test (p (n, x)) (chosen_below p (n +
 
 pub taken_below : (one : Option ℕ) (cpus : ℕ) (body : Body) → IsBody cpus body → All (λ (part : ℕ × Part). part.0 < cpus) (taken_of one body)
 taken_below one cpus Latency allowed = All-nil (λ (part : ℕ × Part). part.0 < cpus)
-taken_below one cpus (Fly parts) allowed = chosen_below (λ (part : ℕ × Part). has (one_or_all one) part.0) 0 cpus parts (omega (arith, allowed.0))
+taken_below one cpus (Fly parts) allowed = chosen_below (λ (part : ℕ × Part). has (one_or_all one) part.0) 0 cpus parts (omega (arith, allowed))

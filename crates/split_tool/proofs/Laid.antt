@@ -1,14 +1,15 @@
 -- The bytes of a new file, one after another, and what is read from them.
-use Rattle.std.proofs.Common.{◌≡◌, ℕ, ◌+◌, ◌-◌, ◌*◌, ◌^◌, ◌<◌, List, [], ◌∷◌, ◌++◌, length, map, refl, sym, ap, subst, ◌∙◌, append_assoc, arith}
+use Rattle.std.proofs.Common.{◌≡◌, ℕ, ◌+◌, ◌-◌, ◌*◌, ◌%◌, ◌^◌, ◌<◌, List, [], ◌∷◌, ◌++◌, length, map, refl, sym, ap, subst, ◌∙◌, append_assoc, arith}
 use Rattle.std.specs.List.{All, flat_map}
 use Rattle.std.specs.Prelude.{None}
+use Rattle.std.proofs.Math.Nat.{mod-eq_of_lt}
 use Rattle.std.proofs.lemmas.List.{length-append, length-replicate}
-use Rattle.std.proofs.lemmas.List.Elements.{All-nil, All-cons, All-head, All-tail}
+use Rattle.std.proofs.lemmas.List.Elements.{All-head, All-tail}
 use Rattle.std.proofs.lemmas.Grind.{div_ceil_times}
 use Rattle.trace_base.specs.declared.layout.Layout.{Layout}
 use Rattle.trace_base.specs.declared.part.Part.{Part}
 use Rattle.trace_base.specs.Layout.{IsLayout}
-use Rattle.dat_options.specs.Table.{IsPart}
+use Rattle.trace_base.specs.Parts.{part_of}
 use Rattle.dat_header.specs.declared.header.Header.{Header}
 use Rattle.dat_header.specs.Allowed.{IsHeader}
 use Rattle.dat_header.specs.Header.{header_of}
@@ -21,7 +22,7 @@ use Rattle.page_write.specs.PageBytes.{IsPackable}
 use Rattle.page_write.specs.Record.{zeros}
 use Rattle.page_write.specs.Pack.{packed, pack}
 use Rattle.page_write.specs.Placed.{parts_from, data_of}
-use Rattle.page_write.proofs.Lifting.{file_again, pack_len}
+use Rattle.page_write.proofs.Lifting.{all_fit, file_again, pack_len}
 use Rattle.split_tool.specs.NewFile.{front_len, front_text, table_of, file_text, StandInRow, ReadsBack}
 use Rattle.split_tool.proofs.Placing.{page_some, front_of}
 
@@ -45,27 +46,18 @@ data_none : (l : Layout) → length (data_of l []) ≡ 0
 unfolding data_of
 data_none l = refl
 
-in_row : (l : Layout) (at to : ℕ) (lists : List (List ItemData)) → IsLayout l → All (All (IsPackable l)) lists → at + length (data_of l lists) ≡ to
+in_row : (l : Layout) (at to : ℕ) (lists : List (List ItemData)) → IsLayout l → All (All (IsPackable l)) lists → at + length (data_of l lists) ≡ to → to < 2 ^ 64
     → StandInRow at (parts_from l at lists) to
-unfolding parts_from
-in_row l at to [] allowed ok is = omega (arith, data_none l, is)
-in_row l at to (xs ∷ lists) allowed ok is =
-    let size = length (packed l xs) * l.page in (
-      refl,
-      in_row l (at + size) to lists allowed (All-tail (All (IsPackable l)) xs lists ok)
-          (omega (arith, data_more l xs lists allowed (All-head (All (IsPackable l)) xs lists ok), is)),
-    )
-
-parts_fit : (l : Layout) (at : ℕ) (lists : List (List ItemData)) → IsLayout l → All (All (IsPackable l)) lists → at + length (data_of l lists) < 2 ^ 64
-    → All IsPart (parts_from l at lists)
-unfolding parts_from
-parts_fit l at [] allowed ok short = All-nil IsPart
-parts_fit l at (xs ∷ lists) allowed ok short =
+unfolding parts_from part_of
+in_row l at to [] allowed ok is short = omega (arith, data_none l, is)
+in_row l at to (xs ∷ lists) allowed ok is short =
     let size = length (packed l xs) * l.page in
     let more = data_more l xs lists allowed (All-head (All (IsPackable l)) xs lists ok) in
-    All-cons IsPart (record { offset = at; size = size }) (parts_from l (at + size) lists)
-    (record { offset_fits = omega (arith, more, short); size_fits = omega (arith, more, short) })
-    (parts_fit l (at + size) lists allowed (All-tail (All (IsPackable l)) xs lists ok) (omega (arith, more, short)))
+    let long : size % 2 ^ 64 ≡ size = mod-eq_of_lt (omega (arith, more, is, short)) in (
+      mod-eq_of_lt (omega (arith, is, short)),
+      subst (λ (n : ℕ). StandInRow (at + n) (parts_from l (at + size) lists) to) (sym long)
+          (in_row l (at + size) to lists allowed (All-tail (All (IsPackable l)) xs lists ok) (omega (arith, more, is)) short),
+    )
 
 -- the front ends where the first sub-buffer stands
 pub length-front : (header : Header) (parts : List Part) → IsHeader header → length parts ≡ header.cpus → length (front_text header parts) ≡ front_len header
@@ -91,11 +83,12 @@ reads_back_all header lists allowed each packable short =
     let many : length parts ≡ header.cpus = length-table header lists ∙ each in
     let front_long : length front ≡ front_len header = length-front header parts allowed many in
     let whole_long : length (front ++ stored) ≡ front_len header + length stored = omega (arith, length-append front stored, front_long) in
-    let read = file_again layout front lists is_layout packable (omega (arith, front_long, whole_long, short)) in
+    let fit = all_fit layout lists (omega (arith, whole_long, short)) in
+    let read = file_again layout front lists is_layout packable fit (omega (arith, front_long, whole_long, short)) in
     let placed = subst (λ at. (map (list_of layout (front ++ stored)) (parts_from layout at lists) ≡ lists)
     × (All (λ part. bad_of layout (front ++ stored) part ≡ None) (parts_from layout at lists))) front_long read in
-    let row = in_row layout (front_len header) (length (front ++ stored)) lists is_layout packable (sym whole_long) in
-    let spells = written_spelled header parts allowed many (parts_fit layout (front_len header) lists is_layout packable (omega (arith, whole_long, short))) in
+    let row = in_row layout (front_len header) (length (front ++ stored)) lists is_layout packable (sym whole_long) short in
+    let spells = written_spelled header parts allowed many in
     record {
       parts = parts;
       header_is = (head, spells, (padding ++ stored, parted));

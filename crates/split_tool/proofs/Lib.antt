@@ -1,7 +1,6 @@
 pub mod Placing
 pub mod Laid
 pub mod Wholes
-pub mod Wrapped
 pub mod HeaderLength
 pub mod ShortHeader
 pub mod FileAfterFile

@@ -43,7 +43,6 @@ use Rattle.split_passes.specs.AllAgain.{owns}
 use Rattle.split_passes.specs.ListSeen.{ListSeen}
 use Rattle.split_tool.specs.Names.{file_name}
 use Rattle.split_tool.specs.NewFile.{file_text, front_text, table_of}
-use Rattle.split_tool.proofs.Wrapped.{front_wrapped}
 use Rattle.split_tool.specs.declared.lists.Ends.{Ends}
 use Rattle.split_tool.specs.Counted.{lists_of}
 use Rattle.split_tool.specs.Lists.{EachList, lanes_of, files_of, files_behind, lists_left, bad_left}
@@ -86,8 +85,7 @@ unfolding file_text
 finished header file rules name name1 first mid now table old old1 new w0 w ends e n empty stores p written =
     let lists = lists_of header.cpus (taken_of file rules (lanes_of first)) in
     let content : front_text header table ++ data_of header.layout (owns (lanes_of mid) (taken_of file rules (lanes_of first))) ≡ front_text header (table_of header lists) ++ data_of header.layout lists =
-    ap (λ (bytes : List ℕ). front_text header table ++ bytes) p.bytes ∙ ap (λ (ps : List Part). front_text header ps ++ data_of header.layout lists) p.table_is
-    ∙ ap (λ (front : List ℕ). front ++ data_of header.layout lists) (front_wrapped header (table_of header lists)) in
+    ap (λ (bytes : List ℕ). front_text header table ++ bytes) p.bytes ∙ ap (λ (ps : List Part). front_text header ps ++ data_of header.layout lists) p.table_is in
     record {
       left = left_still file rules (lanes_of first) (lanes_of first) (lanes_of mid) (lanes_of now) ends refl written.rows written.stands p.left;
       stored = stored_is old1 old new w0 w name name1 _ e n empty (subst (Gained w0 w) content written.gained) stores;

@@ -39,7 +39,6 @@ use Rattle.split_passes.specs.Again.{IsFront}
 use Rattle.split_passes.specs.AllAgain.{AreFronts, owns, IsPackedAll}
 use Rattle.time_merge.proofs.Advancing.{same_length}
 use Rattle.split_passes.proofs.Running.{same_cpu}
-use Rattle.dat_header.specs.Tables.{in_table}
 use Rattle.split_tool.specs.NewFile.{front_len, front_text, table_of}
 use Rattle.split_tool.specs.declared.lists.Ends.{Ends}
 use Rattle.split_tool.specs.Counted.{lists_of, AreCounted}
@@ -182,7 +181,7 @@ pub prepared : (header : Header) (file : List ℕ) (rules : Rules) (first ready 
     → All ListBegun ready → EachList ListDone ready now
     → StaysToCome file (lanes_of first) (lanes_of ready)
     → at ≡ front_len header % 2 ^ 64 → length table0 ≡ header.cpus
-    → ((xs : List Keyed) (place : ℕ) → at ≡ place % 2 ^ 64 → AreCounted header.layout now xs → table ≡ map in_table (parts_from header.layout place (lists_of (length table0) xs)))
+    → ((xs : List Keyed) (place : ℕ) → at ≡ place % 2 ^ 64 → AreCounted header.layout now xs → table ≡ parts_from header.layout place (lists_of (length table0) xs))
     → length file < 2 ^ 64 → All (Stands file) (lanes_of first)
     → FileMeasured file rules ready now ends → Prepared header file rules first now table ends
 unfolding table_of
@@ -208,7 +207,7 @@ prepared header file rules first ready now table0 table at ends allowed layouts 
           (fronts_all file a.all b.all b.fronts b.tallies taken1 (λ i d lt2. (goes.advance i d lt2).layout) ready_here.begun.ready (stands k e inside) goes.parts
           (λ i d p lt2. ap (λ (ps : List Place). get_or ps i p) (done k e inside).fronts ∙ ready_here.begun.noted i d p lt2)
           (m.lefts k e inside) (m.tallied k e inside) (few k e inside));
-      table_is = filled taken (front_len header) place count ∙ ap (λ (n : ℕ). map in_table (parts_from l (front_len header) (lists_of n taken))) cpus;
+      table_is = filled taken (front_len header) place count ∙ ap (λ (n : ℕ). parts_from l (front_len header) (lists_of n taken)) cpus;
       bytes = ap (data_of l) (same_owns (lanes_of now) (lanes_of first) taken (parts_flat ready now long2 goes2 ∙ parts_flat first ready long1 goes1))
           ∙ data_all l file rules (lanes_of first) header.cpus
           (subst CpusRise (parts_flat ready now long2 goes2 ∙ parts_flat first ready long1 goes1) lists.rise)
@@ -219,7 +218,7 @@ pub prepared_told : (header : Header) (rules : Rules) (first ready now : List Li
     → IsHeader header → All (HasLayout header.layout) (lanes_of first) → AreLists rules header now → length ready ≡ length first → length now ≡ length ready → EachList ListGoes first ready → EachList ListGoes ready now
     → All ListBegun ready → EachList ListDone ready now
     → at ≡ front_len header % 2 ^ 64 → length table0 ≡ header.cpus
-    → ((xs : List Keyed) (place : ℕ) → at ≡ place % 2 ^ 64 → AreCounted header.layout now xs → table ≡ map in_table (parts_from header.layout place (lists_of (length table0) xs)))
+    → ((xs : List Keyed) (place : ℕ) → at ≡ place % 2 ^ 64 → AreCounted header.layout now xs → table ≡ parts_from header.layout place (lists_of (length table0) xs))
     → IfSome told (λ file. StaysToCome file (lanes_of first) (lanes_of ready))
     → IfSome now_told (λ file. All (Stands file) (lanes_of ready) → All ListBegun ready → FileMeasured file rules ready now ends)
     → IfSome told (λ file. All (Stands file) (lanes_of first) → length file < 2 ^ 64 → Prepared header file rules first now table ends)

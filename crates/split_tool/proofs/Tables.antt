@@ -1,13 +1,15 @@
 -- The parts of a new file, processor after processor.
 use Rattle.std.proofs.Common.{◌≡◌, ℕ, zero, suc, ◌+◌, ◌-◌, ◌*◌, ◌%◌, ◌^◌, ◌<◌, ◌≤◌, ◌⊎◌, eqb, List, [], ◌∷◌, ◌++◌, length, get_or, set, take, map, refl, sym, ap, subst, ◌∙◌, inl, inr, arith}
 use Rattle.std.specs.List.{All, flat_map, range_with_len}
-use Rattle.std.proofs.lemmas.Bool.{cases_Bool, eqb-true, eqb-false}
+use Rattle.std.proofs.lemmas.Bool.{cases_Bool, cases_eq, eqb-true, eqb-false}
 use Rattle.std.proofs.lemmas.Grind.{get_or-set_at}
 use Rattle.std.proofs.lemmas.List.{get_or_default, get_or-set_other, take_all}
 use Rattle.std.proofs.lemmas.List.Elements.{All-append, All-nil, All-cons, All-head, All-tail, All-weaker}
 use Rattle.std.proofs.lemmas.List.FromFn.{map-range_with_len_more}
 use Rattle.trace_base.specs.declared.layout.Layout.{Layout}
 use Rattle.trace_base.specs.declared.part.Part.{Part}
+use Rattle.trace_base.specs.Parts.{part_of}
+use Rattle.trace_base.proofs.PartNumbers.{same_part}
 use Rattle.subpage.specs.ItemData.{ItemData}
 use Rattle.subpage.specs.Arrangement.{Keyed, CpusRise}
 use Rattle.page_pool.specs.declared.lane.Lane.{Lane}
@@ -20,7 +22,6 @@ use Rattle.split_pieces.specs.Cuts.{items_of_cpu}
 use Rattle.split_passes.specs.AllAgain.{owns}
 use Rattle.split_passes.specs.Tallies.{IsTally}
 use Rattle.split_passes.specs.declared.tally.Tally.{Tally}
-use Rattle.dat_header.specs.Tables.{in_table}
 use Rattle.split_passes.specs.ListSeen.{ListSeen}
 use Rattle.split_tool.specs.Counted.{lists_of, AreCounted, IsSized, LanesCounted}
 use Rattle.split_tool.specs.Lists.{lanes_of}
@@ -39,16 +40,13 @@ size_push l [] xs = omega arith
 size_push l (ys ∷ lists) xs = omega (arith, size_push l lists xs)
 
 pub parts_push : (l : Layout) (at : ℕ) (lists : List (List ItemData)) (xs : List ItemData)
-    → parts_from l at (lists ++ xs ∷ []) ≡ parts_from l at lists ++ record { offset = at + size_in l lists; size = length (packed l xs) * l.page } ∷ []
+    → parts_from l at (lists ++ xs ∷ []) ≡ parts_from l at lists ++ part_of (at + size_in l lists) (length (packed l xs) * l.page) ∷ []
 unfolding parts_from
-parts_push l at [] xs = ap (λ (n : ℕ). part n ∷ []) (omega arith)
-  where
-    part : ℕ → Part
-    part n = record { offset = n; size = length (packed l xs) * l.page }
+parts_push l at [] xs = ap (λ (n : ℕ). part_of n (length (packed l xs) * l.page) ∷ []) (omega arith)
 parts_push l at (ys ∷ lists) xs =
     let size = length (packed l ys) * l.page in
-    ap (λ (ps : List Part). record { offset = at; size = size } ∷ ps)
-    (parts_push l (at + size) lists xs ∙ ap (λ (n : ℕ). parts_from l (at + size) lists ++ record { offset = n; size = length (packed l xs) * l.page } ∷ []) (omega arith))
+    ap (λ (ps : List Part). part_of at size ∷ ps)
+    (parts_push l (at + size) lists xs ∙ ap (λ (n : ℕ). parts_from l (at + size) lists ++ part_of n (length (packed l xs) * l.page) ∷ []) (omega arith))
 
 -- ONE PROCESSOR MORE
 
@@ -69,10 +67,10 @@ size_upto l xs n cpus le =
     let same : size_in l (lists_of (n + (cpus - n)) xs) ≡ size_in l (lists_of cpus xs) = ap (λ (k : ℕ). size_in l (lists_of k xs)) (omega (arith, le)) in
     omega (arith, same, fewer_by l xs n (cpus - n))
 
--- what one processor adds to the table, whose numbers are told modulo 2^64
+-- the table has the parts of so many processors, and this is the place after them, modulo 2^64
 pub record FilledTo (l : Layout) (at : ℕ) (n : ℕ) (xs : List Keyed) (place : ℕ) (table : List Part) : Type 0 where
   pub place_is : place ≡ (at + size_in l (lists_of n xs)) % 2 ^ 64
-  pub parts : take n table ≡ map in_table (parts_from l at (lists_of n xs))
+  pub parts : take n table ≡ parts_from l at (lists_of n xs)
 
 pub filled_none : (l : Layout) (at place : ℕ) (xs : List Keyed) (table : List Part) → place ≡ at % 2 ^ 64 → FilledTo l at 0 xs place table
 unfolding parts_from
@@ -85,30 +83,24 @@ take_set_more (p ∷ table) (suc n) part lt =
     let further : suc n + 1 ≡ suc (n + 1) = omega arith in
     ap (λ (m : ℕ). take m (p ∷ set table n part)) further ∙ ap (λ (ps : List Part). p ∷ ps) (take_set_more table n part (omega (arith, lt)))
 
-in_table_more : (parts : List Part) (part : Part) → map in_table (parts ++ part ∷ []) ≡ map in_table parts ++ in_table part ∷ []
-in_table_more [] part = refl
-in_table_more (p ∷ parts) part = ap (λ (ps : List Part). in_table p ∷ ps) (in_table_more parts part)
-
-pub filled_more : (l : Layout) (at n : ℕ) (xs : List Keyed) (place after size : ℕ) (table : List Part) → n < length table
-    → size ≡ (length (packed l (items_of_cpu n xs)) * l.page) % 2 ^ 64 → after ≡ (place + size) % 2 ^ 64 → FilledTo l at n xs place table
-    → FilledTo l at (n + 1) xs after (set table n (record { offset = place; size = size }))
-filled_more l at n xs place after size table lt size_is after_is f =
+pub filled_more : (l : Layout) (at n : ℕ) (xs : List Keyed) (place after : ℕ) (part : Part) (table : List Part) → n < length table
+    → part.offset ≡ place → part.size ≡ (length (packed l (items_of_cpu n xs)) * l.page) % 2 ^ 64 → after ≡ (place + part.size) % 2 ^ 64 → FilledTo l at n xs place table
+    → FilledTo l at (n + 1) xs after (set table n part)
+unfolding part_of
+filled_more l at n xs place after part table lt offset_is size_is after_is f =
     let lists = lists_of n xs in
     let mine = items_of_cpu n xs in
     let more : size_in l (lists_of (n + 1) xs) ≡ size_in l (lists ++ mine ∷ []) = ap (size_in l) (lists_more n xs) in
+    let own : part ≡ part_of (at + size_in l lists) (length (packed l mine) * l.page) =
+    same_part part (part_of (at + size_in l lists) (length (packed l mine) * l.page)) (offset_is ∙ f.place_is) size_is in
     record {
       place_is = omega (arith, more, size_push l lists mine, size_is, after_is, f.place_is);
-      parts = take_set_more table n (made place size) lt
-          ∙ ap (λ (ps : List Part). ps ++ made place size ∷ []) f.parts
-          ∙ ap (λ (k : ℕ). map in_table (parts_from l at lists) ++ made k size ∷ []) f.place_is
-          ∙ ap (λ (k : ℕ). map in_table (parts_from l at lists) ++ made ((at + size_in l lists) % 2 ^ 64) k ∷ []) size_is
-          ∙ sym (in_table_more (parts_from l at lists) (made (at + size_in l lists) (length (packed l mine) * l.page)))
-          ∙ ap (map in_table) (sym (parts_push l at lists mine))
-          ∙ ap (λ (more : List (List ItemData)). map in_table (parts_from l at more)) (sym (lists_more n xs));
+      parts = take_set_more table n part lt
+          ∙ ap (λ (ps : List Part). ps ++ part ∷ []) f.parts
+          ∙ ap (λ (p : Part). parts_from l at lists ++ p ∷ []) own
+          ∙ sym (parts_push l at lists mine)
+          ∙ ap (parts_from l at) (sym (lists_more n xs));
     }
-  where
-    made : ℕ → ℕ → Part
-    made a b = record { offset = a; size = b }
 
 -- THE BYTES
 
@@ -177,13 +169,23 @@ sized_still l xs table c e part lt is sized = elim (cases_Bool (eqb e c)) [
   | inr b ↦ λ p. ap (λ (q : Part). q.size) (get_or-set_other table c e part p (eqb-false e c b)) ∙ sized p
 ]
 
-pub cleared_more : (table : List Part) (i : ℕ) → i < length table → ((j : ℕ) (p : Part) → j < i → (get_or table j p).size ≡ 0)
-    → (j : ℕ) (p : Part) → j < i + 1 → (get_or (set table i (record { offset = 0; size = 0 })) j p).size ≡ 0
-cleared_more table i lt none j p inside = elim (cases_Bool (eqb j i)) [
-  | inl b ↦ ap (λ (q : Part). q.size) (get_or-set_at table i j (record { offset = 0; size = 0 }) p (eqb-true j i b) lt)
+-- after the lane at hand those up to it have their sizes
+pub sized_so_far : (l : Layout) (xs : List Keyed) (lanes : List Lane) (table : List Part) (i j : ℕ) (a d : Lane) (part : Part) → a.cpu < length table → a ≡ get_or lanes i d
+    → part.size ≡ (length (packed l (items_of_cpu a.cpu xs)) * l.page) % 2 ^ 64 → j < i + 1 → (j < i → IsSized l xs table (get_or lanes j d).cpu) → IsSized l xs (set table a.cpu part) (get_or lanes j d).cpu
+sized_so_far l xs lanes table i j a d part lt here is inside before = elim (cases_eq j i) [
+  | inl same ↦
+      let there : a ≡ get_or lanes j d = here ∙ ap (λ (k : ℕ). get_or lanes k d) (sym same) in
+      subst (λ (b : Lane). IsSized l xs (set table a.cpu part) b.cpu) there (sized_there l xs table a.cpu part lt is)
+  | inr other ↦ sized_still l xs table a.cpu (get_or lanes j d).cpu part lt is (before (omega (arith, inside, other)))
+]
+
+pub cleared_more : (table : List Part) (i : ℕ) (part : Part) → i < length table → part.size ≡ 0 → ((j : ℕ) (p : Part) → j < i → (get_or table j p).size ≡ 0)
+    → (j : ℕ) (p : Part) → j < i + 1 → (get_or (set table i part) j p).size ≡ 0
+cleared_more table i part lt empty none j p inside = elim (cases_Bool (eqb j i)) [
+  | inl b ↦ ap (λ (q : Part). q.size) (get_or-set_at table i j part p (eqb-true j i b) lt) ∙ empty
   | inr b ↦
       let other = eqb-false j i b in
-      ap (λ (q : Part). q.size) (get_or-set_other table i j (record { offset = 0; size = 0 }) p other) ∙ none j p (omega (arith, inside, other))
+      ap (λ (q : Part). q.size) (get_or-set_other table i j part p other) ∙ none j p (omega (arith, inside, other))
 ]
 
 -- the size of the lane at hand
@@ -261,7 +263,7 @@ all_sized l (x ∷ more) xs table n enough counted puts zeros c lt = elim (list_
     by_lane [] i inside is sized = absurd (omega (arith, inside))
     by_lane (a ∷ lanes) i inside is sized = subst (IsSized l xs table) (is a) (sized a)
 
-pub all_filled : (l : Layout) (at n : ℕ) (xs : List Keyed) (place : ℕ) (table old : List Part) → length table ≡ length old → length old ≤ n → n ≤ length old → FilledTo l at n xs place table → table ≡ map in_table (parts_from l at (lists_of (length old) xs))
+pub all_filled : (l : Layout) (at n : ℕ) (xs : List Keyed) (place : ℕ) (table old : List Part) → length table ≡ length old → length old ≤ n → n ≤ length old → FilledTo l at n xs place table → table ≡ parts_from l at (lists_of (length old) xs)
 all_filled l at n xs place table old same le ge f =
     let is : n ≡ length old = omega (arith, le, ge) in
-    sym (take_all n table (omega (arith, same, le))) ∙ f.parts ∙ ap (λ (k : ℕ). map in_table (parts_from l at (lists_of k xs))) is
+    sym (take_all n table (omega (arith, same, le))) ∙ f.parts ∙ ap (λ (k : ℕ). parts_from l at (lists_of k xs)) is

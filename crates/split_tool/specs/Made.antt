@@ -1,5 +1,5 @@
 -- One new file on its way.
-use Rattle.std.specs.Prelude.{◌≡◌, ◌<◌, ◌≤◌, ◌⊎◌, ℕ, List, [], ◌∷◌, ◌++◌, length, map, slice_index_or, IfErr, IfSome, MatchResult, Option, Result, Some, Ok, Err}
+use Rattle.std.specs.Prelude.{◌≡◌, ◌<◌, ◌≤◌, ◌⊎◌, ℕ, List, [], ◌∷◌, ◌++◌, length, slice_index_or, IfErr, IfSome, MatchResult, Option, Result, Some, Ok, Err}
 use Rattle.std.specs.List.{All}
 use Rattle.std.specs.FinMap.{insert}
 use Rattle.trace_base.specs.declared.part.Part.{Part}
@@ -21,7 +21,6 @@ use Rattle.split_pieces.specs.declared.rules.Rules.{Rules}
 use Rattle.split_passes.specs.AllAgain.{AreFronts, TellsHeld, owns}
 use Rattle.split_passes.specs.Outputs.{LanesOutput}
 use Rattle.split_passes.specs.ListSeen.{ListSeen}
-use Rattle.dat_header.specs.Tables.{in_table}
 use Rattle.new_files.specs.Requested.{AskedAll}
 use Rattle.new_files.specs.Stored.{IsUnmade, KeepsCounts}
 use Rattle.split_tool.specs.NewFile.{file_text, front_text, table_of}
@@ -46,11 +45,11 @@ abbrev pub AreFrontsOf : List ℕ → List ListSeen → List Keyed → Type 0
 AreFrontsOf file lists taken =
     (k : ℕ) (e : ListSeen) → k < length lists → OwnFronts file (slice_index_or lists k e) taken
 
--- a file was measured, and its table is known, whose numbers are told modulo 2^64
+-- a file was measured, and its table is known
 pub record Prepared (header : Header) (file : List ℕ) (rules : Rules) (first now : List ListSeen) (table : List Part) (ends : Ends) : Type 0 where
   pub left : FileLeft file rules (lanes_of first) (lanes_of now) ends
   pub fronts_are : AreFrontsOf file now (taken_of file rules (lanes_of first))
-  pub table_is : table ≡ map in_table (table_of header (lists_of header.cpus (taken_of file rules (lanes_of first))))
+  pub table_is : table ≡ table_of header (lists_of header.cpus (taken_of file rules (lanes_of first)))
   pub bytes : data_of header.layout (owns (lanes_of now) (taken_of file rules (lanes_of first)))
       ≡ data_of header.layout (lists_of header.cpus (taken_of file rules (lanes_of first)))
 

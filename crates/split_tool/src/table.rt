@@ -1,12 +1,11 @@
 // The table of a new file.
 
-ghost use Rattle.std.specs.Prelude.{◌≡◌, ℕ, ◌%◌, ◌^◌, ◌<◌, All, List, length, map, slice_index_or};
+ghost use Rattle.std.specs.Prelude.{◌≡◌, ℕ, ◌%◌, ◌^◌, ◌<◌, All, List, length, slice_index_or};
 ghost use Rattle.trace_base.specs.declared.layout.Layout.{Layout};
 ghost use Rattle.trace_base.specs.declared.part.Part.{Part};
 ghost use Rattle.subpage.specs.Arrangement.{Keyed};
 ghost use Rattle.page_pool.specs.declared.lane.Lane.{Lane};
 ghost use Rattle.page_write.specs.Placed.{parts_from};
-ghost use Rattle.dat_header.specs.Tables.{in_table};
 ghost use Rattle.split_tool.specs.Counted.{AreCounted, IsSized, LanesCounted, lists_of};
 ghost use Rattle.split_tool.specs.Lists.{lanes_of};
 
@@ -47,7 +46,7 @@ fn put_sizes(layout: &Layout, lanes: &[Lane], tallies: &[Tally], table: &mut [Pa
 fn place_parts(at: u64, table: &mut [Part])
     ensures { (layout : Layout) (xs : List Keyed) (place : ℕ) → at ≡ place % 2 ^ 64
         → ((cpu : ℕ) → cpu < length table.old → IsSized layout xs table.old cpu)
-        → table.new ≡ map in_table (parts_from layout place (lists_of (length table.old) xs)) }
+        → table.new ≡ parts_from layout place (lists_of (length table.old) xs) }
 {
     let mut place = at;
     for cpu in 0..table.len() {
@@ -65,7 +64,7 @@ fn place_parts(at: u64, table: &mut [Part])
 pub(crate) fn fill_table(layout: &Layout, at: u64, lists: &[LaneList], table: &mut [Part])
     requires { All (λ lane. lane.cpu < length table.old) (lanes_of lists.now) }
     ensures { (xs : List Keyed) (place : ℕ) → at ≡ place % 2 ^ 64 → AreCounted layout.now lists.now xs
-        → table.new ≡ map in_table (parts_from layout.now place (lists_of (length table.old) xs)) }
+        → table.new ≡ parts_from layout.now place (lists_of (length table.old) xs) }
 {
     clear_sizes(table);
     for i in 0..lists.len() {

@@ -6,6 +6,8 @@ use Rattle.std.proofs.lemmas.List.{length-append, length-replicate}
 use Rattle.std.proofs.lemmas.List.Elements.{All-nil, All-cons, All-append}
 use Rattle.trace_base.specs.declared.part.Part.{Part}
 use Rattle.trace_base.specs.Layout.{IsLayout}
+use Rattle.trace_base.specs.Parts.{part_of}
+use Rattle.trace_base.proofs.PartNumbers.{part_is}
 use Rattle.trace_base.proofs.Layouts.{carried}
 use Rattle.trace_outside.specs.Writing.{Gained}
 use Rattle.trace_outside.proofs.Gains.{gained_both}
@@ -19,7 +21,7 @@ use Rattle.page_write.specs.PageBytes.{IsPackable}
 use Rattle.page_write.specs.Record.{zeros}
 use Rattle.page_write.specs.Pack.{packed, pack}
 use Rattle.page_write.specs.Placed.{parts_from, data_of}
-use Rattle.page_write.proofs.Lifting.{file_again, pack_len}
+use Rattle.page_write.proofs.Lifting.{all_fit, file_again, pack_len}
 use Rattle.trace_gen.specs.Generated.{cpu_at, event_at, events_of, lists_of}
 use Rattle.trace_gen.specs.GeneratedHeader.{generated_layout, header_but_parts}
 use Rattle.trace_gen.specs.GeneratedFile.{IsGenerated, front_len, generated_parts, front_text, file_text}
@@ -66,9 +68,12 @@ size_is seed cpu n few = pack_len generated_layout (events_of seed cpu n) is_lay
 grown : (a b t : List ℕ) → Gained (Some a) (Some b) t → b ≡ a ++ t
 grown a b t g = cc
 
-part_is : (part : Part) (at size place len : ℕ) → part ≡ record { offset = at; size = size } → at ≡ place → size ≡ len → part ≡ record { offset = place; size = len }
-part_is part at size place len is at_is size_is =
-    is ∙ ap (λ n. record { offset = n; size = size }) at_is ∙ ap (λ n. record { offset = place; size = n }) size_is
+abbrev StandsThere : Part → ℕ → ℕ → Type 0
+StandsThere part place len = (part.offset ≡ place) × (part.size ≡ len)
+
+is_part : (part : Part) (at size place len : ℕ) → StandsThere part at size → at ≡ place → size ≡ len → part ≡ part_of place len
+is_part part at size place len there at_is size_is =
+    sym (part_is part) ∙ ap (λ (n : ℕ). part_of n part.size) (there.0 ∙ at_is) ∙ ap (part_of place) (there.1 ∙ size_is)
 
 cons_is : (part other : Part) (parts others : List Part) → part ≡ other → parts ≡ others → part ∷ parts ≡ other ∷ others
 cons_is part other parts others one rest = ap (λ (p : Part). p ∷ parts) one ∙ ap (λ (ps : List Part). other ∷ ps) rest
@@ -95,10 +100,10 @@ data_laid seed n start one two three all a =
     ∙ ap (λ (t : List ℕ). p0 ++ (p1 ++ (p2 ++ t))) (sym (append-nil p3))
 
 pub parts_laid : (seed n : ℕ) (start one two three all : List ℕ) (p0 p1 p2 p3 : Part) → n ≤ 2 ^ 32 → AreAppended seed n start one two three all
-    → p0 ≡ record { offset = front_len + length start; size = length (pack generated_layout (events_of seed 0 n)) }
-    → p1 ≡ record { offset = front_len + length one; size = length (pack generated_layout (events_of seed 1 n)) }
-    → p2 ≡ record { offset = front_len + length two; size = length (pack generated_layout (events_of seed 2 n)) }
-    → p3 ≡ record { offset = front_len + length three; size = length (pack generated_layout (events_of seed 3 n)) }
+    → StandsThere p0 (front_len + length start) (length (pack generated_layout (events_of seed 0 n)))
+    → StandsThere p1 (front_len + length one) (length (pack generated_layout (events_of seed 1 n)))
+    → StandsThere p2 (front_len + length two) (length (pack generated_layout (events_of seed 2 n)))
+    → StandsThere p3 (front_len + length three) (length (pack generated_layout (events_of seed 3 n)))
     → p0 ∷ p1 ∷ p2 ∷ p3 ∷ [] ≡ generated_parts seed n
 unfolding parts_from
 parts_laid seed n start one two three all p0 p1 p2 p3 few a is0 is1 is2 is3 =
@@ -113,10 +118,10 @@ parts_laid seed n start one two three all p0 p1 p2 p3 few a is0 is1 is2 is3 =
     let l1 : length one ≡ length start + length t0 = ap length (grown start one t0 a.first) ∙ length-append start t0 in
     let l2 : length two ≡ length one + length t1 = ap length (grown one two t1 a.second) ∙ length-append one t1 in
     let l3 : length three ≡ length two + length t2 = ap length (grown two three t2 a.third) ∙ length-append two t2 in
-    cons_is p0 _ _ _ (part_is p0 _ _ _ _ is0 (omega (arith, l0)) s0)
-    (cons_is p1 _ _ _ (part_is p1 _ _ _ _ is1 (omega (arith, l0, l1, s0)) s1)
-    (cons_is p2 _ _ _ (part_is p2 _ _ _ _ is2 (omega (arith, l0, l1, l2, s0, s1)) s2)
-    (cons_is p3 _ [] [] (part_is p3 _ _ _ _ is3 (omega (arith, l0, l1, l2, l3, s0, s1, s2)) s3) refl)))
+    cons_is p0 _ _ _ (is_part p0 _ _ _ _ is0 (omega (arith, l0)) s0)
+    (cons_is p1 _ _ _ (is_part p1 _ _ _ _ is1 (omega (arith, l0, l1, s0)) s1)
+    (cons_is p2 _ _ _ (is_part p2 _ _ _ _ is2 (omega (arith, l0, l1, l2, s0, s1)) s2)
+    (cons_is p3 _ [] [] (is_part p3 _ _ _ _ is3 (omega (arith, l0, l1, l2, l3, s0, s1, s2)) s3) refl)))
 
 pub parts_four : (seed n : ℕ) → length (generated_parts seed n) ≡ 4
 unfolding parts_from
@@ -152,7 +157,7 @@ is_generated seed n bytes few is short spells = subst (λ (t : List ℕ). IsGene
         let front = front_text seed n in
         let parted : (header ++ padding) ++ stored ≡ header ++ (padding ++ stored) = append_assoc header padding stored in
         let long : length front + length stored ≤ 2 ^ 64 = omega (arith, length-append front stored, ap length is, short) in
-        let read = file_again generated_layout front (lists_of seed n) is_layout (lists_packable seed n few) long in
+        let read = file_again generated_layout front (lists_of seed n) is_layout (lists_packable seed n few) (all_fit generated_layout (lists_of seed n) (omega (arith, length-front seed n, long))) long in
         let placed = subst (λ at. (map (list_of generated_layout (front ++ stored)) (parts_from generated_layout at (lists_of seed n)) ≡ lists_of seed n) × (All (λ part. bad_of generated_layout (front ++ stored) part ≡ None) (parts_from generated_layout at (lists_of seed n)))) (length-front seed n) read in
         record {
           parts = generated_parts seed n;

@@ -55,8 +55,8 @@ fn append_processor(
     requires layout { packer.old.layout ≡ generated_layout }
     requires empty { packer.old.held ≡ [] }
     ensures gained { OnOk result (Gained (⟦<MemSink as Sink>⟧.written sub_buffers.old) (⟦<MemSink as Sink>⟧.written sub_buffers.new) (pack generated_layout (events_of seed cpu events))) }
-    ensures part { IfOk result (λ part. IfSome (⟦<MemSink as Sink>⟧.written sub_buffers.old) (λ before.
-        part ≡ record { offset = front_len + length before; size = length (pack generated_layout (events_of seed cpu events)) })) }
+    ensures offset { IfOk result (λ part. IfSome (⟦<MemSink as Sink>⟧.written sub_buffers.old) (λ before. part.offset ≡ front_len + length before)) }
+    ensures size { IfOk result (λ part. part.size ≡ length (pack generated_layout (events_of seed cpu events))) }
     ensures layout { OnOk result (packer.new.layout ≡ generated_layout) }
     ensures empty { OnOk result (packer.new.held ≡ []) }
 {

@@ -1,12 +1,10 @@
 use Rattle.std.proofs.Common.{length, ◌≡◌, ◌++◌, ◌%◌}
-use Rattle.std.specs.List.{All}
-use Rattle.dat_options.specs.Table.{IsPart, table_text}
+use Rattle.dat_options.specs.Table.{table_text}
 use Rattle.dat_options.proofs.table.parts_of.Given as goal
 
 abbrev pub invariant-loop-rest : goal.invariant-loop-rest
 invariant-loop-rest l = record {
   spelled : l.text ≡ table_text l.order l.parts.items ++ l.rest;
-  allowed : All IsPart l.parts.items;
   whole : length l.rest % 16 ≡ 0;
 }
 

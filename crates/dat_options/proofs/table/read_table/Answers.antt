@@ -25,17 +25,17 @@ returns-in_err-text-clause-kept g c =
 pub returns-clause-found : goal.returns-clause-found
 returns-clause-found g c =
     let found : Found c.args.order c.args.cpus (g.F.File.bytes c.args.file.now) c.args.at c.in_ok-parts.parts = all_found c.args.order c.args.cpus _ _ c.args.at c.in_ok-parts.parts c.in_ok-text.text (g.met.F.File.size_is c.args.file.now)
-    c.in_ok-parts.ensures.allowed (c.in_ok-parts.ensures.spelled ∙ c.as_bytes.ensures) c.in_ok-text.ensures.given in
+    (c.in_ok-parts.ensures.spelled ∙ c.as_bytes.ensures) c.in_ok-text.ensures.given in
     found.found
 
 pub returns-clause-exact : goal.returns-clause-exact
 returns-clause-exact g c =
     let found : Found c.args.order c.args.cpus (g.F.File.bytes c.args.file.now) c.args.at c.in_ok-parts.parts = all_found c.args.order c.args.cpus _ _ c.args.at c.in_ok-parts.parts c.in_ok-text.text (g.met.F.File.size_is c.args.file.now)
-    c.in_ok-parts.ensures.allowed (c.in_ok-parts.ensures.spelled ∙ c.as_bytes.ensures) c.in_ok-text.ensures.given in
+    (c.in_ok-parts.ensures.spelled ∙ c.as_bytes.ensures) c.in_ok-text.ensures.given in
     found.exact
 
 pub returns-clause-count : goal.returns-clause-count
 returns-clause-count g c =
     let found : Found c.args.order c.args.cpus (g.F.File.bytes c.args.file.now) c.args.at c.in_ok-parts.parts = all_found c.args.order c.args.cpus _ _ c.args.at c.in_ok-parts.parts c.in_ok-text.text (g.met.F.File.size_is c.args.file.now)
-    c.in_ok-parts.ensures.allowed (c.in_ok-parts.ensures.spelled ∙ c.as_bytes.ensures) c.in_ok-text.ensures.given in
+    (c.in_ok-parts.ensures.spelled ∙ c.as_bytes.ensures) c.in_ok-text.ensures.given in
     found.count

@@ -1,6 +1,5 @@
-use Rattle.std.proofs.Common.{rules, arith, ◌≡◌, ◌<◌, ◌≤◌, ◌∙◌, ◌+◌, ◌%◌, ◌^◌, ℕ, ap, sym, subst, IfSome, length, get_or, map}
+use Rattle.std.proofs.Common.{rules, arith, ◌≡◌, ◌<◌, ◌≤◌, ◌∙◌, ◌+◌, ◌%◌, ◌^◌, ℕ, refl, ap, sym, subst, IfSome, length, get_or, map}
 use Rattle.std.proofs.lemmas.List.{get_or-map, length-map, take_more_set}
-use Rattle.trace_base.specs.declared.part.Part.{Part}
 use Rattle.trace_outside.specs.Seen.{file_seen}
 use Rattle.restore_tool.proofs.FilesBehind.{placed_all, placed_more, placed_none}
 use Rattle.restore_tool.proofs.placing.place_files.Goals as goal
@@ -14,12 +13,11 @@ loop-i-preserved g c =
     let lt : c.loop-i.i < length c.args.files.now = search rules in
     let room : c.loop-i.i < length c.loop-i.parts = search rules in
     let file = c.index-files-i.result in
-    let part : Part = record { offset = (c.loop-i.place + c.gap.result) % 2 ^ 64; size = c.len-size.result } in
     let from : c.from-missing.result ≡ c.gap.result = c.from-missing.ensures in
     let is_file : f file ≡ get_or (map f c.args.files.now) c.loop-i.i (f file) = ap f c.index-files-i.is ∙ sym (get_or-map f c.args.files.now c.loop-i.i file (f file) lt) in
     placed_more c.args.page c.args.place (map f c.args.files.now) c.loop-i.i c.loop-i.place c.gap.result c.len-size.result _ (f file) _ c.loop-i.parts _
-    (omega (arith, lt, length-map c.args.files.now f)) c.gap.ensures.gap is_file (subst (λ (n : ℕ). IfSome (g.F.File.bytes file) (λ bytes. length bytes ≡ n)) (sym c.len-size.ensures) (g.met.F.File.size_is file)) (omega arith)
-    (ap (λ (n : ℕ). let p : Part = record { offset = (c.loop-i.place + n) % 2 ^ 64; size = c.len-size.result } in p) from)
+    (omega (arith, lt, length-map c.args.files.now f)) c.gap.ensures.gap is_file (subst (λ (n : ℕ). IfSome (g.F.File.bytes file) (λ bytes. length bytes ≡ n)) (sym c.len-size.ensures) (g.met.F.File.size_is file))
+    (ap (λ (n : ℕ). (c.loop-i.place + n) % 2 ^ 64) from) refl
     (ap (λ (n : ℕ). ((c.loop-i.place + n) % 2 ^ 64 + c.len-size.result) % 2 ^ 64) from)
     (take_more_set c.loop-i.parts c.loop-i.i _ room)
     c.loop-i.invariant

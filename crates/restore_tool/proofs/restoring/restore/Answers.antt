@@ -1,6 +1,5 @@
 use Rattle.std.proofs.Common.{◌≡◌, ◌∙◌, inl, length, map, arith}
 use Rattle.std.proofs.lemmas.Result.{err_from_is_err_and}
-use Rattle.dat_header.specs.Tables.{in_table}
 use Rattle.trace_outside.specs.Seen.{file_seen}
 use Rattle.restore_tool.specs.Copying.{text_of}
 use Rattle.restore_tool.specs.Restored.{header_end, table_of}
@@ -17,7 +16,7 @@ returns-in_ok-finish_file-in-Ok-clause-leaves g c = λ told.
     let texts = map text_of (map (file_seen g.D.In.File) c.args.files.now) in
     let parts = c.place_files.new.parts in
     let each : length parts ≡ header.cpus = omega arith in
-    let placed : parts ≡ map in_table (table_of header texts) = c.place_files.ensures (header_end header) (header_end_len header c.header_len.result c.header_len.ensures) told in
+    let placed : parts ≡ table_of header texts = c.place_files.ensures (header_end header) (header_end_len header c.header_len.result c.header_len.ensures) told in
     stored_is (g.D.Folder.files c.args.folder.now) (g.D.Folder.files c.create_file.new.self) (g.D.Folder.files c.finish_file.new.self) c.args.name.now (g.D.Out.Sink.name c.write_whole.new.out)
     _ _ (g.D.Out.Sink.written c.in_ok-out.out) (g.D.Out.Sink.written c.write_whole.new.out)
     c.in_ok-out.ensures.files (c.write_whole.ensures.keeps_out.name ∙ c.in_ok-out.ensures.named) c.in_ok-out.ensures.empty (c.in-Ok.ensures.copies told) (whole_is header parts texts each placed) c.in_ok-finish_file-in-Ok.ensures.stored

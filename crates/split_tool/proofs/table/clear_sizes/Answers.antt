@@ -1,4 +1,4 @@
-use Rattle.std.proofs.Common.{rules, arith, ◌<◌, length, ◌∙◌}
+use Rattle.std.proofs.Common.{rules, refl, arith, ◌<◌, length, ◌∙◌}
 use Rattle.std.proofs.lemmas.List.{length-set}
 use Rattle.split_tool.proofs.Tables.{cleared_more}
 use Rattle.split_tool.proofs.table.clear_sizes.Goals as goal
@@ -8,7 +8,7 @@ loop-i-preserved c =
     let lt : c.loop-i.i < length c.loop-i.table = search rules in
     record {
       long = length-set c.loop-i.table c.loop-i.i _ ∙ c.loop-i.invariant.long;
-      none = cleared_more c.loop-i.table c.loop-i.i lt c.loop-i.invariant.none;
+      none = cleared_more c.loop-i.table c.loop-i.i _ lt refl c.loop-i.invariant.none;
     }
 
 pub returns-clause-none : goal.returns-clause-none

@@ -1,8 +1,7 @@
-use Rattle.std.proofs.Common.{rules, arith, ◌≡◌, ◌<◌, ◌≤◌, ℕ, List, length, get_or, map, inl, inr, ap, subst, ◌∙◌}
+use Rattle.std.proofs.Common.{rules, arith, ◌≡◌, ◌<◌, ◌≤◌, ℕ, List, length, get_or, inl, inr, ap, subst, ◌∙◌}
 use Rattle.std.proofs.lemmas.Bool.{cases_eq}
 use Rattle.page_pool.specs.declared.lane.Lane.{Lane}
 use Rattle.page_write.specs.Placed.{parts_from}
-use Rattle.dat_header.specs.Tables.{in_table}
 use Rattle.split_tool.specs.Counted.{IsSized, lists_of}
 use Rattle.split_tool.proofs.Tables.{all_sized, counted_at, lanes_at, none_sized, same_lanes}
 use Rattle.split_tool.proofs.table.fill_table.Goals as goal
@@ -51,4 +50,4 @@ returns c = λ xs place at counted.
     let over : length c.args.lists.now ≤ c.loop-i.i = search rules in
     c.place_parts.ensures l xs place at
     (all_sized l c.args.lists.now xs c.loop-i.table c.loop-i.i over counted (λ k e j d lt lt2 lt3. v.puts xs k e j d counted lt lt3) (λ cpu lt none. v.zeros xs cpu counted (omega (arith, lt, v.long)) none))
-    ∙ ap (λ (n : ℕ). map in_table (parts_from l place (lists_of n xs))) v.long
+    ∙ ap (λ (n : ℕ). parts_from l place (lists_of n xs)) v.long

@@ -26,7 +26,7 @@ loop-cpu-preserved c =
       long = length-set c.loop-cpu.table c.loop-cpu.cpu _ ∙ v.long;
       rest = λ j p le. get_or-set_other c.loop-cpu.table c.loop-cpu.cpu j _ p (λ is. omega (arith, le, is)) ∙ v.rest j p (omega (arith, le));
       filled = λ layout xs whole at sized.
-          filled_more layout whole c.loop-cpu.cpu xs c.loop-cpu.place _ _ c.loop-cpu.table lt
+          filled_more layout whole c.loop-cpu.cpu xs c.loop-cpu.place _ _ c.loop-cpu.table lt refl
           (ap (λ (q : Part). q.size) (v.rest c.loop-cpu.cpu _ (omega arith)) ∙ sized c.loop-cpu.cpu (omega (arith, lt, v.long)) _)
           refl (v.filled layout xs whole at sized);
     }

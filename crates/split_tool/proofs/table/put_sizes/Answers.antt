@@ -1,10 +1,7 @@
-use Rattle.std.proofs.Common.{rules, arith, ◌≡◌, ◌*◌, ◌%◌, ◌^◌, ◌<◌, ◌≤◌, ℕ, length, get_or, set, inl, inr, ap, sym, subst, ◌∙◌}
-use Rattle.std.proofs.lemmas.Bool.{cases_eq}
+use Rattle.std.proofs.Common.{rules, arith, ◌≡◌, ◌*◌, ◌%◌, ◌^◌, ◌<◌, ◌≤◌, ℕ, length, get_or, ap, ◌∙◌}
 use Rattle.std.proofs.lemmas.List.{get_or_default, length-set}
-use Rattle.trace_base.specs.declared.part.Part.{Part}
 use Rattle.page_pool.specs.declared.lane.Lane.{Lane}
-use Rattle.split_tool.specs.Counted.{IsSized}
-use Rattle.split_tool.proofs.Tables.{lane_size, sized_still, sized_there}
+use Rattle.split_tool.proofs.Tables.{lane_size, sized_so_far, sized_still}
 use Rattle.split_tool.proofs.table.put_sizes.Goals as goal
 
 pub loop-i-preserved : goal.loop-i-preserved
@@ -24,17 +21,11 @@ loop-i-preserved c =
     record {
       long = length-set c.loop-i.table _ _ ∙ v.long;
       keeps = λ xs e counted sized.
-          sized_still l xs c.loop-i.table a.cpu e (record { offset = 0; size = (c.pages.result * c.from.result) % 2 ^ 64 }) cpu
+          sized_still l xs c.loop-i.table a.cpu e _ cpu
           (size ∙ lane_size l lanes tallies xs i a t c.pages.result lt here c.index-tallies-i.is (c.pages.ensures l) counted) (v.keeps xs e counted sized);
       puts = λ xs j d counted inside.
-          let part : Part = record { offset = 0; size = (c.pages.result * c.from.result) % 2 ^ 64 } in
           let one = size ∙ lane_size l lanes tallies xs i a t c.pages.result lt here c.index-tallies-i.is (c.pages.ensures l) counted in
-          elim (cases_eq j i) [
-            | inl same ↦
-                let there : a ≡ get_or lanes j d = get_or_default lanes i c.index-lanes-i.result d lt ∙ ap (λ (k : ℕ). get_or lanes k d) (sym same) in
-                subst (λ (b : Lane). IsSized l xs (set c.loop-i.table a.cpu part) b.cpu) there (sized_there l xs c.loop-i.table a.cpu part cpu one)
-            | inr other ↦ sized_still l xs c.loop-i.table a.cpu (get_or lanes j d).cpu part cpu one (v.puts xs j d counted (omega (arith, inside, other)))
-          ];
+          sized_so_far l xs lanes c.loop-i.table i j a d _ cpu (get_or_default lanes i c.index-lanes-i.result d lt) one inside (v.puts xs j d counted);
     }
 
 pub returns-clause-puts : goal.returns-clause-puts

@@ -23,4 +23,5 @@ returns-clause-parts c =
       fourth = c.in_ok-fourth.ensures.gained;
     } in
     parts_laid c.args.seed c.args.events _ _ _ _ _ c.in_ok-first.first c.in_ok-second.second c.in_ok-third.third c.in_ok-fourth.fourth (omega (arith, c.ranges.events.fits)) appended
-    c.in_ok-first.ensures.part c.in_ok-second.ensures.part c.in_ok-third.ensures.part c.in_ok-fourth.ensures.part
+    (c.in_ok-first.ensures.offset, c.in_ok-first.ensures.size) (c.in_ok-second.ensures.offset, c.in_ok-second.ensures.size)
+    (c.in_ok-third.ensures.offset, c.in_ok-third.ensures.size) (c.in_ok-fourth.ensures.offset, c.in_ok-fourth.ensures.size)
